@@ -2,8 +2,8 @@
 # Fails where README.md, a page of docs/ or tests/peers/README.md names a file, a folder or a crate that is not there, where
 # docs/MAP.md lacks a crate, or where a line of crates.txt has a library that no file of its crate names. A file may be
 # named by its whole path, under its crate, or, in a paragraph that names crates, under one of these. Fails too where the
-# tables of docs/STATEMENT.md are not those of the definitions (tests/statement.py), or where a CALLING.md does not quote the
-# code as it is (tests/calling.py). The gate runs it.
+# tables of docs/STATEMENT.md are not those of the definitions, where a crate of definitions has anything else
+# (tests/statement.py), or where a CALLING.md does not quote the code as it is (tests/calling.py). The gate runs it.
 # Usage: tests/map.sh
 set -euo pipefail
 cd "$(dirname "$0")/.."

@@ -4,6 +4,9 @@
 A table follows a line `<!-- CRATE.specs.FILE.NAME .. -->`. It has a row for each file with a definition that these names
 rest on, unless a table before it has that definition: the file, what its first comment says, and the definitions. Each
 file comes before those that it rests on. What std, the toolchain's crates and Rust declare is not listed.
+
+Fails too where a crate `spec_..` imports anything but std and other such crates, has a proof, a loop or a branch other
+than a match, or where a definition of one that has a table rests on a definition of a crate of another kind.
 Usage: tests/statement.py [--write]
 """
 import glob, os, re, sys
@@ -182,6 +185,29 @@ def table_of(files, roots, taken):
     return rows
 
 
+def faults_of_spec_crates(files, lines):
+    """What crates of definitions alone may not have, as lines of text."""
+    for path in sorted(glob.glob("crates/spec_*/**/*", recursive=True)):
+        if "/out/" in path or not path.endswith((".antt", ".rt")):
+            continue
+        text = open(path).read()
+        if "/proofs/" in path and text.strip():
+            yield f"{path}: a proof"
+        for line in (line for line in text.split("\n") if not line.lstrip().startswith(("--", "//"))):
+            for name in re.findall(r"Rattle\.(\w+)\.", line) + re.findall(r"^(?:pub )?use (\w+)::", line):
+                is_own = name in ("std", "crate") or os.path.exists(f"{os.path.dirname(path)}/{name}.rt")
+                if not is_own and not name.startswith("spec_"):
+                    yield f"{path}: it imports {name}"
+            if path.endswith(".rt") and re.search(r"\b(if|for|while|loop)\b", line):
+                yield f"{path}: a loop or a branch: {line.strip()}"
+    for root in (root for mark in map(MARK.match, lines) if mark for root in mark[1].split()):
+        found = {}
+        reach(files, *root.rsplit(".", 1), set(), found)
+        for module in sorted(found):
+            if root.startswith("spec_") and not module.startswith("spec_"):
+                yield f"{root} rests on {module}"
+
+
 def page_of(files, lines):
     """The page with the tables as the definitions have them."""
     page, taken, is_table = [], set(), False
@@ -201,7 +227,11 @@ def main():
     os.chdir(os.path.join(os.path.dirname(os.path.abspath(__file__)), ".."))
     sys.setrecursionlimit(10_000)
     lines = open(PAGE).read().split("\n")
-    page = page_of(read_files(), lines)
+    files = read_files()
+    faults = list(faults_of_spec_crates(files, lines))
+    if faults:
+        sys.exit("\n".join(faults))
+    page = page_of(files, lines)
     if "--write" in sys.argv[1:]:
         open(PAGE, "w").write("\n".join(page))
     elif page != lines:

@@ -5,8 +5,8 @@ use Rattle.std.specs.Fmt.{decimal}
 use Rattle.std.specs.List.{AllByRecursion, flat_map}
 use Rattle.std.proofs.lemmas.List.{append-nil, length-append}
 use Rattle.hex.specs.Hex.{IsBytes, encode_lower}
-use Rattle.avro_bytes.specs.MismatchKind as kinds
-use Rattle.avro_bytes.specs.declared.mismatch.Mismatch.{Mismatch}
+use Rattle.spec_avro.specs.MismatchKind as kinds
+use Rattle.spec_avro.specs.declared.mismatch.Mismatch.{Mismatch}
 use Rattle.isa.specs.declared.entry.Entry.{Entry}
 use Rattle.isa.specs.declared.instr.Instr.{Instr}
 use Rattle.isa.specs.declared.limits.TheConstants.{MOST_CONSTANT_BYTES, MOST_ENTRIES, MOST_INSTRS, MOST_TABLES}

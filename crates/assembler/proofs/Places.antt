@@ -3,8 +3,8 @@ use Rattle.std.proofs.Common.{◌≡◌, ℕ, suc, ◌+◌, ◌^◌, ◌<◌, Bo
 use Rattle.std.specs.Prelude.{option_map, IfSome}
 use Rattle.std.specs.Option.{option_or}
 use Rattle.std.proofs.lemmas.List.Quantifiers.{position-Some}
-use Rattle.avro_bytes.specs.declared.mismatch.Mismatch.{Mismatch}
-use Rattle.avro_bytes.specs.declared.mismatch.MismatchKind.TheVariants.{NoMatch}
+use Rattle.spec_avro.specs.declared.mismatch.Mismatch.{Mismatch}
+use Rattle.spec_avro.specs.declared.mismatch.MismatchKind.TheVariants.{NoMatch}
 use Rattle.isa.specs.declared.instr.Instr.TheVariants.{Bool as Boolean}
 use Rattle.isa.specs.declared.entry.Entry.TheVariants.{Position}
 use Rattle.isa.specs.declared.program.ProgramError.{ProgramError}

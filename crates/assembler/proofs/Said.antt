@@ -9,9 +9,9 @@ use Rattle.std.proofs.lemmas.List.Concat.{flat_map-cons}
 use Rattle.std.proofs.lemmas.Slice.Eq.{bytes_eq-Decides}
 use Rattle.hex.specs.declared.error.FromHexError.{FromHexError}
 use Rattle.hex.specs.Hex.{decode_of, encode_lower}
-use Rattle.avro_bytes.specs.MismatchKind as kinds
-use Rattle.avro_bytes.specs.declared.mismatch.Mismatch.{Mismatch}
-use Rattle.avro_bytes.specs.declared.mismatch.MismatchKind.{MismatchKind}
+use Rattle.spec_avro.specs.MismatchKind as kinds
+use Rattle.spec_avro.specs.declared.mismatch.Mismatch.{Mismatch}
+use Rattle.spec_avro.specs.declared.mismatch.MismatchKind.{MismatchKind}
 use Rattle.isa.specs.declared.entry.Entry.{Entry}
 use Rattle.isa.specs.declared.entry.Entry.TheVariants as entries
 use Rattle.isa.specs.declared.instr.Instr.{Instr}

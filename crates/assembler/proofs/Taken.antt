@@ -7,8 +7,8 @@ use Rattle.std.specs.Str.{bytes_eq}
 use Rattle.std.proofs.lemmas.Bool.{eqb-true}
 use Rattle.std.proofs.lemmas.List.{append-nil}
 use Rattle.hex.specs.Hex.{encode_lower}
-use Rattle.avro_bytes.specs.MismatchKind as kinds
-use Rattle.avro_bytes.specs.declared.mismatch.Mismatch.{Mismatch}
+use Rattle.spec_avro.specs.MismatchKind as kinds
+use Rattle.spec_avro.specs.declared.mismatch.Mismatch.{Mismatch}
 use Rattle.isa.specs.declared.entry.Entry.{Entry}
 use Rattle.isa.specs.declared.limits.TheConstants.{MOST_INSTRS, MOST_TABLES}
 use Rattle.isa.specs.Program.{Program}

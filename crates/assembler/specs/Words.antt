@@ -4,8 +4,8 @@ use Rattle.std.specs.List.{list_all}
 use Rattle.std.specs.Char.{is_ascii_digit}
 use Rattle.std.specs.Str.{bytes_eq}
 use Rattle.std.specs.Str.Parse.{digits_value}
-use Rattle.avro_bytes.specs.MismatchKind as kinds
-use Rattle.avro_bytes.specs.declared.mismatch.MismatchKind.{MismatchKind}
+use Rattle.spec_avro.specs.MismatchKind as kinds
+use Rattle.spec_avro.specs.declared.mismatch.MismatchKind.{MismatchKind}
 use Rattle.isa.specs.declared.operation.Operation.{Operation}
 use Rattle.isa.specs.Operation.{name_of}
 use Rattle.isa.specs.declared.operation.TheConstants.{OPERATIONS}

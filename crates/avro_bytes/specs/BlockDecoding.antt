@@ -1,12 +1,13 @@
 -- Decoding the blocks of an array or a map, from one item to the next (Avro 1.11, "Binary Encoding", arrays and maps).
 use Rattle.std.specs.Prelude.{◌≡◌, ℕ, zero, suc, ◌-◌, List, Option, Some, None, Result, Ok, Err, if◌then◌else◌, ◌==◌, ℤ, pos, negsuc, Bool, true, false}
-use Rattle.avro_bytes.specs.declared.meter.Meter.{Meter}
+use Rattle.spec_avro.specs.declared.meter.Meter.{Meter}
 use Rattle.avro_bytes.specs.declared.fault.Fault.{Fault}
 use Rattle.avro_bytes.specs.declared.fault.Fault.TheVariants as fault
-use Rattle.avro_bytes.specs.declared.fault.MalformedKind.TheVariants.{BadBlock}
-use Rattle.avro_bytes.specs.Decoding.{Complete, Decoding, Failed, Malformed, Need, inside, ◌>>=◌}
+use Rattle.spec_avro.specs.declared.malformed.MalformedKind.TheVariants.{BadBlock}
+use Rattle.avro_bytes.specs.Decoding.{Complete, Decoding, Failed, inside, ◌>>=◌}
+use Rattle.spec_avro.specs.Defect.{Malformed, Need}
 use Rattle.avro_bytes.specs.Meter.{closed_blocks, opened_item}
-use Rattle.avro_bytes.specs.Number.{long_limit}
+use Rattle.spec_avro.specs.Number.{long_limit}
 use Rattle.avro_bytes.specs.NumberDecoding.{number_at}
 use Rattle.avro_bytes.specs.Walk.{Walk, first_walk}
 

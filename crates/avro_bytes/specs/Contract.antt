@@ -1,9 +1,10 @@
 -- What calls that read, and calls that skip, answer of what decoding gives.
 use Rattle.std.specs.Prelude.{◌≡◌, ℕ, Result, Ok, Err}
-use Rattle.avro_bytes.specs.declared.meter.Meter.{Meter}
+use Rattle.spec_avro.specs.declared.meter.Meter.{Meter}
 use Rattle.avro_bytes.specs.declared.fault.Fault.{Fault}
 use Rattle.avro_bytes.specs.declared.fault.Fault.TheVariants as fault
-use Rattle.avro_bytes.specs.Decoding.{Complete, Decoding, Defect, Failed, IsComplete, Malformed, Need}
+use Rattle.avro_bytes.specs.Decoding.{Complete, Decoding, Failed, IsComplete}
+use Rattle.spec_avro.specs.Defect.{Defect, Malformed, Need}
 
 -- what reading answers, its value seen by view; and what decoding is like where memory ran out
 abbrev pub Reads : {X V : Type 0} → (X → V) → (Decoding V → Type 0) → Result (X × ℕ × Meter) Fault → Decoding V → Type 0

@@ -1,16 +1,9 @@
--- What decoding the bytes at an offset gives (Avro 1.11, "Binary Encoding").
--- This project's own rule: why it gives no value.
+-- What decoding the bytes at an offset gives: a value and where it ends, or why there is none. This project's own.
 use Rattle.std.specs.Prelude.{◌≡◌, ℕ, ◌+◌, List, ◌++◌, length, drop, Result, Ok, Err}
-use Rattle.avro_bytes.specs.declared.meter.Meter.{Meter}
-use Rattle.avro_bytes.specs.declared.fault.MalformedKind.{MalformedKind}
+use Rattle.spec_avro.specs.declared.meter.Meter.{Meter}
 use Rattle.avro_bytes.specs.declared.fault.Fault.{Fault}
 use Rattle.avro_bytes.specs.declared.fault.Fault.TheVariants as fault
-
--- a fault and its offset, from wherever that is counted; or the bytes end inside a part that none of them has made
--- faulty
-pub data Defect : Type 0 where
-  Malformed : MalformedKind → ℕ → Defect
-  Need : Defect
+use Rattle.spec_avro.specs.Defect.{Defect, Malformed, Need}
 
 -- a value, with the offset after its spelling and the meter there; or why there is none, whose offset is counted from
 -- the first byte

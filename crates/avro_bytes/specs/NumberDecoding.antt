@@ -1,12 +1,13 @@
 -- Decoding a number (Avro 1.11, "Binary Encoding", int and long): its bytes are those up to the first without the high
 -- bit.
 use Rattle.std.specs.Prelude.{◌≡◌, ℕ, zero, suc, ◌+◌, ◌/◌, ◌%◌, List, [], ◌∷◌, length, drop, nat_lt, ◌==◌, if◌then◌else◌, ℤ, pos, negsuc, Result, Ok, Err}
-use Rattle.avro_bytes.specs.declared.meter.Meter.{Meter}
-use Rattle.avro_bytes.specs.declared.fault.MalformedKind.TheVariants.{BadNumber}
+use Rattle.spec_avro.specs.declared.meter.Meter.{Meter}
+use Rattle.spec_avro.specs.declared.malformed.MalformedKind.TheVariants.{BadNumber}
 use Rattle.avro_bytes.specs.declared.fault.Fault.{Fault}
 use Rattle.avro_bytes.specs.declared.fault.Fault.TheVariants as fault
-use Rattle.avro_bytes.specs.Number.{Limit, groups_sum}
-use Rattle.avro_bytes.specs.Decoding.{Complete, Decoding, Failed, Malformed, Need}
+use Rattle.spec_avro.specs.Number.{Limit, groups_sum}
+use Rattle.avro_bytes.specs.Decoding.{Complete, Decoding, Failed}
+use Rattle.spec_avro.specs.Defect.{Malformed, Need}
 
 -- 0, 1, 2, 3, 4 .. as 0, -1, 1, -2, 2 ..
 abbrev pub from_zigzag : ℕ → ℤ

@@ -1,18 +1,8 @@
--- What becomes of a payload, wherever its bytes lie in memory.
-use Rattle.std.specs.Prelude.{ℕ, List}
-use Rattle.avro_bytes.specs.declared.fault.MalformedKind.{MalformedKind}
-use Rattle.avro_bytes.specs.declared.mismatch.Mismatch.{Mismatch}
+-- The outcome that a value of the code says. This project's own.
+use Rattle.spec_avro.specs.declared.mismatch.Mismatch.{Mismatch}
 use Rattle.avro_bytes.specs.declared.payload.Outcome as rust
 use Rattle.avro_bytes.specs.declared.payload.Outcome.TheVariants as variants
-
-pub data Outcome : Type 0 where
-  -- the written form of what the reader makes of the datum
-  Done : List ℕ → Outcome
-  Mismatched : Mismatch → Outcome
-  -- the first fault, and its offset in the payload
-  Malformed : MalformedKind → ℕ → Outcome
-  -- the written form would pass its limit
-  OutputTooLarge : Outcome
+use Rattle.spec_avro.specs.Outcome.{Outcome, Done, Mismatched, Malformed, OutputTooLarge}
 
 abbrev pub outcome_of : rust.Outcome → Outcome
 outcome_of (variants.Done bytes) = Done bytes.items

@@ -1,34 +1,11 @@
--- Positions (Avro 1.11, "Binary Encoding", enum and union): an int, from 0 and below the count of symbols or branches.
-use Rattle.std.specs.Prelude.{◌≡◌, ◌<◌, ◌⊎◌, ℕ, List, ◌++◌, nat_lt, if◌then◌else◌, ℤ, pos, negsuc}
-use Rattle.avro_bytes.specs.declared.fault.MalformedKind.{MalformedKind}
-use Rattle.avro_bytes.specs.declared.meter.Meter.{Meter}
-use Rattle.avro_bytes.specs.Number.{IsNumber32, int_limit}
+-- What decoding a position at an offset gives (Avro 1.11, "Binary Encoding", enum and union).
+use Rattle.std.specs.Prelude.{ℕ, List, nat_lt, if◌then◌else◌, ℤ, pos, negsuc}
+use Rattle.spec_avro.specs.declared.malformed.MalformedKind.{MalformedKind}
+use Rattle.spec_avro.specs.declared.meter.Meter.{Meter}
+use Rattle.spec_avro.specs.Number.{int_limit}
 use Rattle.avro_bytes.specs.NumberDecoding.{number_at}
-use Rattle.avro_bytes.specs.Decoding.{Complete, Decoding, Defect, Failed, Malformed, Need, ◌>>=◌}
-use Rattle.avro_bytes.specs.Fault.{FaultyNumber}
-
-abbrev pub IsPosition : ℕ → ℤ → Type 0
-IsPosition many (pos n) = n < many
-IsPosition many (negsuc n) = ⊥
-
--- the bytes spell position n, one of `many`
-abbrev pub SpellsPosition : ℕ → ℕ → List ℕ → Type 0
-SpellsPosition many n bytes = (n < many) × IsNumber32 (pos n) bytes
-
--- a number that is none of `many` positions
-pub record IsBadPosition (many : ℕ) (bytes : List ℕ) : Type 0 where
-  pub position : List ℕ
-  pub rest : List ℕ
-  pub n : ℤ
-  pub parts : bytes ≡ position ++ rest
-  pub number : IsNumber32 n position
-  pub bad : ¬ (IsPosition many n)
-
--- no number; or one that is no position, which is of its own kind
-abbrev pub FaultyPosition : MalformedKind → ℕ → List ℕ → Defect → Type 0
-FaultyPosition bad many bytes (Malformed kind offset) =
-    FaultyNumber int_limit bytes (Malformed kind offset) ⊎ (IsBadPosition many bytes × (kind ≡ bad) × (offset ≡ 0))
-FaultyPosition bad many bytes Need = FaultyNumber int_limit bytes Need
+use Rattle.avro_bytes.specs.Decoding.{Complete, Decoding, Failed, ◌>>=◌}
+use Rattle.spec_avro.specs.Defect.{Malformed}
 
 -- a number that was read at an offset, where it is a position
 abbrev pub position_of : MalformedKind → ℕ → ℕ → ℤ → ℕ → Meter → Decoding ℕ

@@ -1,16 +1,7 @@
--- The shortest encoding of an int or a long (Avro 1.11, "Binary Encoding", int and long).
+-- Encodings that are known to be the shortest by their last byte. This project's own.
 use Rattle.std.specs.List.{AllByRecursion}
-use Rattle.avro_bytes.specs.declared.limits.TheConstants.{LONG_BYTES}
-use Rattle.std.specs.Prelude.{◌⊎◌, length, slice_index, ◌≡◌, ◌<◌, ℕ, zero, suc, ◌+◌, ◌-◌, ◌*◌, ◌/◌, ◌%◌, ◌^◌, List, [], ◌∷◌, ◌++◌, nat_lt, if◌then◌else◌, ℤ}
-use Rattle.avro_bytes.specs.Number.{Limit, zigzag}
-
--- seven bits a byte, the least first, in as few bytes as hold them, up to a limit
-unfoldable pub shortest_groups : ℕ → ℕ → List ℕ
-shortest_groups zero n = []
-shortest_groups (suc left) n = if nat_lt n 128 then n ∷ [] else (n % 128 + 128) ∷ shortest_groups left (n / 128)
-
-unfoldable pub shortest : ℤ → List ℕ
-shortest n = shortest_groups LONG_BYTES (zigzag n)
+use Rattle.std.specs.Prelude.{◌⊎◌, length, slice_index, ◌≡◌, ◌<◌, ℕ, ◌+◌, ◌-◌, ◌*◌, ◌^◌, List, ◌++◌, ℤ}
+use Rattle.spec_avro.specs.Number.{Limit, zigzag}
 
 -- a number that the limit's bytes can hold
 abbrev pub FitsLimit : Limit → ℤ → Type 0

@@ -1,9 +1,9 @@
 -- From inside the blocks of an array or a map: what remains to a walk, and what leads it to the next item (Avro 1.11,
 -- "Binary Encoding", arrays and maps).
 use Rattle.std.specs.Prelude.{◌≡◌, ℕ, ◌+◌, ◌-◌, List, ◌∷◌, ◌++◌, length}
-use Rattle.avro_bytes.specs.declared.meter.Meter.{Meter}
+use Rattle.spec_avro.specs.declared.meter.Meter.{Meter}
 use Rattle.avro_bytes.specs.BlockDecoding.{item_at, next_item}
-use Rattle.avro_bytes.specs.Blocks.{IsItems, SizeIs, joined}
+use Rattle.spec_avro.specs.Blocks.{IsItems, SizeIs, joined}
 use Rattle.avro_bytes.specs.Walk.{Walk}
 
 -- the items that end at an offset have their block's size

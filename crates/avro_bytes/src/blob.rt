@@ -1,10 +1,11 @@
 //! Bytes after their length, and fixed contents.
 
 ghost use Rattle.std.specs.Prelude.{◌≡◌, ◌≤◌, ℕ, List, length, IfOk};
-ghost use Rattle.avro_bytes.specs.Blob.{FaultyFixed, IsBlob, IsFixed, content_at, fixed_at};
+ghost use Rattle.spec_avro.specs.Blob.{FaultyFixed, IsBlob, IsFixed};
+ghost use Rattle.avro_bytes.specs.Blob.{content_at, fixed_at};
 ghost use Rattle.avro_bytes.specs.Contract.{Finds};
 ghost use Rattle.avro_bytes.specs.Decoding.{IsComplete};
-ghost use Rattle.avro_bytes.specs.Fault.{FaultyContent};
+ghost use Rattle.spec_avro.specs.Fault.{FaultyContent};
 ghost use Rattle.avro_bytes.specs.Laws.Blobs.{blob_complete, blob_one_form, blob_sound, content_steady};
 ghost use Rattle.avro_bytes.specs.Laws.Fixeds.{fixed_complete, fixed_defect, fixed_one_form, fixed_sound, fixed_steady, fixed_told};
 ghost use Rattle.avro_bytes.specs.Laws.BlobDefects.{content_defect, content_told};

@@ -4,7 +4,7 @@ ghost use Rattle.std.specs.Prelude.{◌≡◌, ◌≤◌, ◌<◌, ◌+◌, leng
 
 use crate::fault::{Fault, MalformedKind};
 use crate::limits::MOST_UNITS;
-use crate::meter::Meter;
+use crate::meter::{Meter, enter_blocks, enter_item};
 use crate::number::read_long;
 use std::marker::Model;
 
@@ -42,7 +42,7 @@ impl BlockWalk {
         ensures { Begins at result (opened_blocks at meter) }
     {
         let walk = BlockWalk::walk_of(0, at, at, None);
-        Ok((walk, meter.enter_blocks(at)?))
+        Ok((walk, enter_blocks(meter, at)?))
     }
 
     /// Returns the walk with these parts.
@@ -202,7 +202,7 @@ impl BlockWalk {
         ensures finds { Finds (λ walk. walk) result (item_at self at meter) }
         ensures within { IfOk result (λ r. r.1 ≡ at) }
     {
-        let inside = meter.enter_item(at)?;
+        let inside = enter_item(meter, at)?;
         Ok((Some(self), at, inside))
     }
 }

@@ -1,7 +1,8 @@
 //! The encoding of a boolean.
 
 ghost use Rattle.std.specs.Prelude.{◌≡◌, ◌≤◌, length, IfOk, Bool as Truth};
-ghost use Rattle.avro_bytes.specs.Boolean.{FaultyBoolean, IsBoolean, boolean_at};
+ghost use Rattle.spec_avro.specs.Boolean.{FaultyBoolean, IsBoolean};
+ghost use Rattle.avro_bytes.specs.Boolean.{boolean_at};
 ghost use Rattle.avro_bytes.specs.Contract.{Finds, Never};
 ghost use Rattle.avro_bytes.specs.Laws.Booleans.{boolean_complete, boolean_defect, boolean_one_form, boolean_sound, boolean_steady, boolean_told};
 

@@ -1,9 +1,10 @@
 //! What every encoding of values owes: reading, skipping, and their laws.
 
 ghost use Rattle.std.specs.Prelude.{◌≡◌, ◌≢◌, ◌≤◌, ◌+◌, ◌++◌, ℕ, List, length, drop, IfOk};
-ghost use Rattle.avro_bytes.specs.declared.meter.Meter.{Meter};
+ghost use Rattle.spec_avro.specs.declared.meter.Meter.{Meter};
 ghost use Rattle.avro_bytes.specs.Contract.{AnswersAlike, Reads, skipped};
-ghost use Rattle.avro_bytes.specs.Decoding.{Complete, Decoding, Defect, Failed, Need, Stands};
+ghost use Rattle.avro_bytes.specs.Decoding.{Complete, Decoding, Failed, Stands};
+ghost use Rattle.spec_avro.specs.Defect.{Defect, Need};
 ghost use Rattle.avro_bytes.specs.Fault.{HasDefect, failing};
 
 use crate::fault::Fault;

@@ -3,18 +3,21 @@
 ghost use Rattle.std.specs.Prelude.{ℕ, ℤ, List, [], ◌∷◌, ◌++◌, ◌+◌, ◌≡◌, ◌≢◌, ◌≤◌, ◌<◌, ◌↔◌, suc, drop, length, Some, None};
 ghost use Rattle.avro_bytes.specs.Blob.{content_at, fixed_at};
 ghost use Rattle.avro_bytes.specs.BlockDecoding.{next_block, next_item};
-ghost use Rattle.avro_bytes.specs.BlockFault.{FaultyHead};
-ghost use Rattle.avro_bytes.specs.Blocks.{IsItems};
-ghost use Rattle.avro_bytes.specs.Decoding.{Complete, Defect, Failed, Malformed, Need, Stands};
+ghost use Rattle.spec_avro.specs.BlockFault.{FaultyHead};
+ghost use Rattle.spec_avro.specs.Blocks.{IsItems};
+ghost use Rattle.avro_bytes.specs.Decoding.{Complete, Failed, Stands};
+ghost use Rattle.spec_avro.specs.Defect.{Defect, Malformed, Need};
 ghost use Rattle.avro_bytes.specs.Fault.{HasDefect, failing};
 ghost use Rattle.avro_bytes.specs.Length.{length_at};
-ghost use Rattle.avro_bytes.specs.Meter.{RefusesItem, closed_blocks};
-ghost use Rattle.avro_bytes.specs.Number.{IsNumber32, IsNumber64, int_limit, long_limit};
-ghost use Rattle.avro_bytes.specs.Shortest.{AreBytes, FitsLimit, IsTight, shortest};
+ghost use Rattle.spec_avro.specs.Meter.{RefusesItem};
+ghost use Rattle.avro_bytes.specs.Meter.{closed_blocks};
+ghost use Rattle.spec_avro.specs.Number.{IsNumber32, IsNumber64, int_limit, long_limit};
+ghost use Rattle.avro_bytes.specs.Shortest.{AreBytes, FitsLimit, IsTight};
+ghost use Rattle.spec_avro.specs.Shortest.{shortest};
 ghost use Rattle.avro_bytes.specs.Walk.{Walk, first_walk};
 ghost use Rattle.avro_bytes.specs.Walking.{Comes, IsMet, Leads, Remains};
-ghost use Rattle.avro_bytes.specs.declared.fault.MalformedKind.TheVariants.{BadBlock};
-ghost use Rattle.avro_bytes.specs.declared.meter.Meter.{Meter};
+ghost use Rattle.spec_avro.specs.declared.malformed.MalformedKind.TheVariants.{BadBlock};
+ghost use Rattle.spec_avro.specs.declared.meter.Meter.{Meter};
 
 use crate::limits::{
     INT_BYTES, INT_LAST, LONG_BYTES, LONG_LAST, MOST_CONTENT, MOST_DEPTH, MOST_OUTPUT,

@@ -13,7 +13,6 @@ mod laws;
 mod length;
 mod limits;
 mod meter;
-mod mismatch;
 mod number;
 mod payload;
 mod position;
@@ -35,10 +34,10 @@ pub use limits::{
     INT_BYTES, INT_LAST, LONG_BYTES, LONG_LAST, MOST_CONTENT, MOST_DEPTH, MOST_OUTPUT,
     MOST_PAYLOAD, MOST_UNITS,
 };
-pub use meter::Meter;
-pub use mismatch::{Mismatch, MismatchKind};
+pub use meter::{Meter, enter_blocks, enter_item, enter_record};
 pub use number::{Int, Long, read_int, read_long};
 pub use payload::Outcome;
 pub use position::{Position, read_position};
 pub use put::{long_len, put_long};
+pub use spec_avro::{Mismatch, MismatchKind};
 pub use text::Text;

@@ -3,8 +3,8 @@
 ghost use Rattle.std.specs.Prelude.{◌≡◌, ◌≤◌, ◌<◌, ◌+◌, ◌-◌, ◌*◌, ◌^◌, ℤ, length, drop, IfOk};
 ghost use Rattle.std.proofs.Common.{lit<};
 ghost use Rattle.avro_bytes.specs.Contract.{Finds, Never};
-ghost use Rattle.avro_bytes.specs.Fault.{FaultyNumber};
-ghost use Rattle.avro_bytes.specs.Number.{IsNumber32, IsNumber64, int_limit, long_limit};
+ghost use Rattle.spec_avro.specs.Fault.{FaultyNumber};
+ghost use Rattle.spec_avro.specs.Number.{IsNumber32, IsNumber64, int_limit, long_limit};
 ghost use Rattle.avro_bytes.specs.NumberDecoding.{GivesGroups, from_zigzag, number_at, number_front};
 ghost use Rattle.avro_bytes.specs.Laws.Defects.{number_defect, number_told};
 ghost use Rattle.avro_bytes.specs.Laws.Numbers.{number_complete, number_one_form, number_sound, number_steady};

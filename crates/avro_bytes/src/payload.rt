@@ -1,7 +1,7 @@
 //! What becomes of a payload.
 
 use crate::fault::MalformedKind;
-use crate::mismatch::Mismatch;
+use spec_avro::Mismatch;
 
 /// What becomes of a payload.
 #[derive(Debug, Drop, PartialEq, Eq)]

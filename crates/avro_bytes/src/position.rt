@@ -2,7 +2,8 @@
 
 ghost use Rattle.std.specs.Prelude.{◌≡◌, ◌≤◌, ◌<◌, ℕ, length, IfOk};
 ghost use Rattle.avro_bytes.specs.Contract.{Finds, Never};
-ghost use Rattle.avro_bytes.specs.Position.{FaultyPosition, SpellsPosition, position_at};
+ghost use Rattle.spec_avro.specs.Position.{FaultyPosition, SpellsPosition};
+ghost use Rattle.avro_bytes.specs.Position.{position_at};
 ghost use Rattle.avro_bytes.specs.Laws.Positions.{position_complete, position_defect, position_one_form, position_sound, position_steady, position_told};
 
 use crate::fault::{Fault, MalformedKind};

@@ -1,8 +1,9 @@
 //! Writing a number in its shortest encoding.
 
 ghost use Rattle.std.specs.Prelude.{◌≡◌, ◌≤◌, ◌++◌, length, OnOk, OnErr};
-ghost use Rattle.avro_bytes.specs.Number.{zigzag};
-ghost use Rattle.avro_bytes.specs.Shortest.{Extends, shortest, shortest_groups};
+ghost use Rattle.spec_avro.specs.Number.{zigzag};
+ghost use Rattle.avro_bytes.specs.Shortest.{Extends};
+ghost use Rattle.spec_avro.specs.Shortest.{shortest, shortest_groups};
 
 use crate::limits::LONG_BYTES;
 use std::alloc::AllocError;
@@ -47,7 +48,7 @@ fn groups_len(n: u64) -> usize
 }
 
 /// Returns how many bytes `number` has in its shortest encoding.
-#[tactic(auto, unfolding(crate::specs::Shortest::shortest))]
+#[tactic(auto, unfolding(spec_avro::specs::Shortest::shortest))]
 pub fn long_len(number: i64) -> usize
     ensures len { result ≡ length (shortest number) }
     ensures most { result ≤ LONG_BYTES }
@@ -56,7 +57,7 @@ pub fn long_len(number: i64) -> usize
 }
 
 /// Appends a number in its shortest encoding. An `Err` leaves the vector as it was.
-#[tactic(auto, unfolding(crate::specs::Shortest::shortest))]
+#[tactic(auto, unfolding(spec_avro::specs::Shortest::shortest))]
 pub fn put_long(out: &mut Vec<u8>, number: i64) -> Result<(), AllocError>
     ensures ok { OnOk result (out.new.items ≡ out.old.items ++ shortest number) }
     ensures err { OnErr result (out.new.items ≡ out.old.items) }

@@ -3,8 +3,9 @@
 ghost use Rattle.std.specs.Prelude.{◌≡◌, ◌≤◌, ◌<◌, ℕ, List, length, string_bytes, IfOk};
 ghost use Rattle.avro_bytes.specs.Contract.{Finds};
 ghost use Rattle.avro_bytes.specs.Decoding.{IsComplete};
-ghost use Rattle.avro_bytes.specs.Fault.{FaultyText};
-ghost use Rattle.avro_bytes.specs.Text.{IsText, text_at};
+ghost use Rattle.spec_avro.specs.Fault.{FaultyText};
+ghost use Rattle.spec_avro.specs.Text.{IsText};
+ghost use Rattle.avro_bytes.specs.Text.{text_at};
 ghost use Rattle.avro_bytes.specs.Laws.Texts.{text_complete, text_one_form, text_sound, text_steady};
 ghost use Rattle.avro_bytes.specs.Laws.TextDefects.{text_defect, text_told};
 

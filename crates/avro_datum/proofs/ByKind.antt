@@ -3,17 +3,18 @@ use Rattle.std.proofs.Common.{inl, ◌≡◌, ℕ, zero, suc, ◌-◌, List, [],
 use Rattle.std.specs.Global.{Vec}
 use Rattle.std.specs.List.{AllByRecursion}
 use Rattle.avro_types.specs.declared.datum.Datum as rust
-use Rattle.avro_bytes.specs.declared.fault.MalformedKind.TheVariants.{BadBranch}
-use Rattle.avro_bytes.specs.declared.meter.Meter.{Meter}
+use Rattle.spec_avro.specs.declared.malformed.MalformedKind.TheVariants.{BadBranch}
+use Rattle.spec_avro.specs.declared.meter.Meter.{Meter}
 use Rattle.avro_bytes.specs.declared.fault.Fault.{Fault}
 use Rattle.avro_bytes.specs.declared.fault.Fault.TheVariants as fault
 use Rattle.avro_bytes.specs.Walk.{Walk, first_walk}
 use Rattle.avro_bytes.specs.Contract.{Finds, Gathers, Reads}
 use Rattle.avro_bytes.specs.Meter.{opened_blocks, opened_record}
 use Rattle.avro_bytes.specs.Laws.Meters.{blocks_were_opened, was_opened}
-use Rattle.avro_types.specs.Datum.{Datum, Data, ArrayDatum, MapDatum, UnionDatum, datum_of, data_of, pairs_of, more, pair}
-use Rattle.avro_types.specs.Node.{Names, Node, FieldNode, ArrayNode, MapNode, UnionNode, RecordNode}
-use Rattle.avro_types.specs.WellFormed.{IsMember, is_union}
+use Rattle.spec_avro.specs.Datum.{Datum, Data, ArrayDatum, MapDatum, UnionDatum, more, pair}
+use Rattle.avro_types.specs.Datum.{datum_of, data_of, pairs_of}
+use Rattle.spec_avro.specs.Node.{Names, Node, FieldNode, ArrayNode, MapNode, UnionNode, RecordNode}
+use Rattle.spec_avro.specs.WellFormed.{IsMember, is_union}
 use Rattle.avro_types.specs.Laws.DatumOf.{datum_of-Array, datum_of-Map, datum_of-Record}
 use Rattle.avro_datum.proofs.Lacking.{gathered, holding, lacking, leaf_lacks, member_lacks}
 use Rattle.avro_datum.specs.Decoding.{Decoder, IsLeaf, array_of, closed_record, data_from, datum_at, fields_at, kind_at, leaf_at, map_of, member_at, node_at, pair_at, pairs_from, plain_at}
@@ -22,8 +23,9 @@ use Rattle.avro_bytes.specs.Position.{position_at}
 use Rattle.avro_datum.specs.Memory.{KindLacks, Lacks, LeafLacks}
 use Rattle.avro_datum.specs.View.{each_datum, each_pair, pair_of}
 use Rattle.avro_datum.specs.Laws.Kinds.{kind_is_plain, leaf_is_kind}
-use Rattle.avro_bytes.specs.Decoding.{Complete, Decoding, Failed, Need, inside, map_decoding, ◌>>=◌}
-use Rattle.avro_bytes.specs.declared.limits.TheConstants.{MOST_DEPTH}
+use Rattle.avro_bytes.specs.Decoding.{Complete, Decoding, Failed, inside, map_decoding, ◌>>=◌}
+use Rattle.spec_avro.specs.Defect.{Need}
+use Rattle.spec_avro.specs.declared.limits.TheConstants.{MOST_DEPTH}
 
 -- what decodes the parts of a node
 abbrev pub below : ℕ → List Node → List ℕ → Decoder

@@ -2,12 +2,12 @@
 use Rattle.std.proofs.Common.{Option, Some, None, ◌≡◌, ℕ, zero, suc, ◌+◌, ◌*◌, ◌/◌, ◌<◌, ◌≤◌, List, [], ◌∷◌, ◌++◌, length, ℤ, pos, negsuc, refl, sym, ap, ◌∙◌, append_assoc, arith, inl, inr}
 use Rattle.std.proofs.lemmas.Bool.{cases_lt, le-ltb, lt-ltb}
 use Rattle.std.proofs.lemmas.List.{length-append}
-use Rattle.avro_bytes.specs.declared.limits.TheConstants.{LONG_BYTES}
-use Rattle.avro_bytes.specs.Blocks.{IsBlocks, IsHead, IsItems, joined}
-use Rattle.avro_bytes.specs.Number.{long_limit, zigzag}
-use Rattle.avro_bytes.specs.Shortest.{shortest, shortest_groups}
+use Rattle.spec_avro.specs.declared.limits.TheConstants.{LONG_BYTES}
+use Rattle.spec_avro.specs.Blocks.{IsBlocks, IsHead, IsItems, joined}
+use Rattle.spec_avro.specs.Number.{long_limit, zigzag}
+use Rattle.spec_avro.specs.Shortest.{shortest, shortest_groups}
 use Rattle.avro_bytes.specs.Laws.Shortests.{shortest_is_shortest}
-use Rattle.avro_bytes.specs.Written.{block_count}
+use Rattle.spec_avro.specs.Written.{block_count}
 
 abbrev groups_len : ℕ → ℕ → ℕ
 groups_len left n = length (shortest_groups left n)

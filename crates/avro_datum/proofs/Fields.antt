@@ -4,16 +4,19 @@ use Rattle.std.proofs.Math.Seq.{drop-cons}
 use Rattle.std.proofs.Math.ListN.{drop_of_length-le}
 use Rattle.std.specs.Global.{Vec}
 use Rattle.avro_types.specs.declared.datum.Datum as rust
-use Rattle.avro_bytes.specs.declared.meter.Meter.{Meter}
+use Rattle.spec_avro.specs.declared.meter.Meter.{Meter}
 use Rattle.avro_bytes.specs.declared.fault.Fault.{Fault}
 use Rattle.avro_bytes.specs.declared.fault.Fault.TheVariants as fault
 use Rattle.avro_bytes.specs.Contract.{Gathers}
 use Rattle.avro_types.specs.declared.kind.Field.{Field}
-use Rattle.avro_types.specs.Datum.{Datum, Data, no_more, more, datum_of, data_of}
-use Rattle.avro_types.specs.Node.{FieldNode, field_of, fields_of}
-use Rattle.avro_types.specs.WellFormed.{FieldsBelow}
+use Rattle.spec_avro.specs.Datum.{Datum, Data, no_more, more}
+use Rattle.avro_types.specs.Datum.{datum_of, data_of}
+use Rattle.spec_avro.specs.Node.{FieldNode}
+use Rattle.avro_types.specs.Node.{field_of, fields_of}
+use Rattle.spec_avro.specs.WellFormed.{FieldsBelow}
 use Rattle.avro_datum.specs.Decoding.{Decoder, fields_at}
-use Rattle.avro_bytes.specs.Decoding.{Complete, Decoding, Failed, Malformed, Need, map_decoding, ◌>>=◌}
+use Rattle.avro_bytes.specs.Decoding.{Complete, Decoding, Failed, map_decoding, ◌>>=◌}
+use Rattle.spec_avro.specs.Defect.{Malformed, Need}
 
 -- ---- a field of a list of them
 

@@ -2,7 +2,7 @@
 use Rattle.std.proofs.Common.{◌≡◌, ℕ, zero, suc, ◌+◌, ◌-◌, ◌<◌, ◌≤◌, List, [], ◌∷◌, ◌++◌, map, Option, Some, None, Err, Ok, Result, refl, sym, ap, ◌∙◌, arith, Bool, true, false}
 use Rattle.std.proofs.lemmas.List.{append-nil, map-append}
 use Rattle.std.specs.Global.{Vec}
-use Rattle.avro_bytes.specs.declared.meter.Meter.{Meter}
+use Rattle.spec_avro.specs.declared.meter.Meter.{Meter}
 use Rattle.avro_bytes.specs.declared.fault.Fault.{Fault}
 use Rattle.avro_bytes.specs.declared.fault.Fault.TheVariants as fault
 use Rattle.avro_bytes.specs.Walk.{Walk}
@@ -10,8 +10,9 @@ use Rattle.avro_bytes.specs.BlockDecoding.{Walks, next_item}
 use Rattle.avro_bytes.specs.Contract.{Gathers, skipped}
 use Rattle.avro_datum.specs.ItemDecoding.{Reader, items_at, items_from, steps_left}
 use Rattle.avro_datum.specs.Laws.ItemsAgain.{map_after, map_none}
-use Rattle.avro_bytes.specs.Decoding.{Complete, Decoding, Failed, Malformed, Need, map_decoding, ◌>>=◌}
-use Rattle.avro_bytes.specs.declared.limits.TheConstants.{MOST_UNITS}
+use Rattle.avro_bytes.specs.Decoding.{Complete, Decoding, Failed, map_decoding, ◌>>=◌}
+use Rattle.spec_avro.specs.Defect.{Malformed, Need}
+use Rattle.spec_avro.specs.declared.limits.TheConstants.{MOST_UNITS}
 
 -- ---- what the walk answers
 

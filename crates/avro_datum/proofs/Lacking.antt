@@ -4,10 +4,11 @@ use Rattle.avro_bytes.specs.Contract.{Anywhere, Gathers, Reads}
 use Rattle.avro_bytes.specs.Decoding.{Complete, Decoding, Failed, IsComplete, map_decoding}
 use Rattle.avro_bytes.specs.declared.fault.Fault.{Fault}
 use Rattle.avro_bytes.specs.declared.fault.Fault.TheVariants as fault
-use Rattle.avro_bytes.specs.declared.meter.Meter.{Meter}
-use Rattle.avro_types.specs.Datum.{Datum, UnionDatum, datum_of}
-use Rattle.avro_types.specs.Node.{Node, BytesNode, TextNode, FixedNode, ArrayNode, MapNode, UnionNode, RecordNode}
-use Rattle.avro_types.specs.WellFormed.{is_union}
+use Rattle.spec_avro.specs.declared.meter.Meter.{Meter}
+use Rattle.spec_avro.specs.Datum.{Datum, UnionDatum}
+use Rattle.avro_types.specs.Datum.{datum_of}
+use Rattle.spec_avro.specs.Node.{Node, BytesNode, TextNode, FixedNode, ArrayNode, MapNode, UnionNode, RecordNode}
+use Rattle.spec_avro.specs.WellFormed.{is_union}
 use Rattle.avro_types.specs.declared.datum.Datum as rust
 use Rattle.avro_datum.specs.Decoding.{IsLeaf}
 use Rattle.avro_datum.specs.Memory.{HoldsOthers, KindLacks, Lacks, LeafLacks, holds_others}

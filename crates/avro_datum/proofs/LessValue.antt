@@ -2,17 +2,18 @@
 use Rattle.std.proofs.Common.{◌≡◌, ℕ, suc, ◌+◌, ◌-◌, ◌<◌, ◌≤◌, List, length, drop, get_or, Some, Result, Ok, Err, refl, sym, ap, ◌∙◌, add-one, subst, slice_get, cond, Bool, true, false}
 use Rattle.std.specs.Prelude.{nat_le}
 use Rattle.std.specs.List.{AllByRecursion}
-use Rattle.avro_bytes.specs.declared.fault.MalformedKind.TheVariants.{TooDeep, TooMany, BadBranch}
-use Rattle.avro_bytes.specs.declared.meter.Meter.{Meter}
+use Rattle.spec_avro.specs.declared.malformed.MalformedKind.TheVariants.{TooDeep, TooMany, BadBranch}
+use Rattle.spec_avro.specs.declared.meter.Meter.{Meter}
 use Rattle.avro_bytes.specs.declared.fault.Fault.{Fault}
 use Rattle.avro_bytes.specs.declared.fault.Fault.TheVariants as fault
 use Rattle.avro_bytes.specs.Contract.{Finds, skipped}
 use Rattle.avro_bytes.specs.Walk.{Walk, first_walk}
 use Rattle.avro_bytes.specs.Meter.{opened_blocks, opened_record}
 use Rattle.avro_types.specs.declared.kind.Field.{Field}
-use Rattle.avro_types.specs.Datum.{Datum, Data, UnionDatum, more}
-use Rattle.avro_types.specs.Node.{Node, Names, FieldNode, ArrayNode, MapNode, UnionNode, RecordNode, fields_of}
-use Rattle.avro_types.specs.WellFormed.{IsMember}
+use Rattle.spec_avro.specs.Datum.{Datum, Data, UnionDatum, more}
+use Rattle.spec_avro.specs.Node.{Node, Names, FieldNode, ArrayNode, MapNode, UnionNode, RecordNode}
+use Rattle.avro_types.specs.Node.{fields_of}
+use Rattle.spec_avro.specs.WellFormed.{IsMember}
 use Rattle.avro_datum.specs.Decoding.{Decoder, IsLeaf, array_of, closed_record, datum_at, fields_at, leaf_at, map_of, member_at, node_at, pair_at, plain_at}
 use Rattle.avro_datum.specs.ItemDecoding.{items_at, steps_left}
 use Rattle.avro_bytes.specs.Position.{position_at}
@@ -21,7 +22,7 @@ use Rattle.avro_datum.proofs.Fields.{fields_from, no_fields}
 use Rattle.avro_datum.proofs.Items.{less_mapped}
 use Rattle.avro_datum.proofs.Skips.{fails_too, same_ok, was_complete}
 use Rattle.avro_bytes.specs.Decoding.{Complete, Decoding, Failed, inside, map_decoding, ◌>>=◌}
-use Rattle.avro_bytes.specs.declared.limits.TheConstants.{MOST_DEPTH, MOST_UNITS}
+use Rattle.spec_avro.specs.declared.limits.TheConstants.{MOST_DEPTH, MOST_UNITS}
 
 less_datum : (d : Datum) (x : Decoding Data) → skipped (x >>= λ ds end last. Complete (more d ds) end last) ≡ skipped x
 less_datum d (Complete ds to m) = refl

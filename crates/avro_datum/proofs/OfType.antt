@@ -1,14 +1,14 @@
 -- What is spelled is of its node's type, and can be written again where a long can count its units.
 use Rattle.std.proofs.Common.{◌≡◌, ℕ, ◌≤◌, ◌*◌, ◌^◌, ◌<◌, List, [], ◌∷◌, Some, sym, subst, arith, ℤ, pos, negsuc, lit<, slice_get}
-use Rattle.avro_bytes.specs.Number.{int_limit, long_limit, zigzag}
+use Rattle.spec_avro.specs.Number.{int_limit, long_limit, zigzag}
 use Rattle.avro_bytes.specs.Laws.Numbers.{number_below}
-use Rattle.avro_types.specs.Conforming.{Conforms, ConformAll, ConformPairs, ConformsEach, HasBits}
-use Rattle.avro_types.specs.Node.{Node, FieldNode, FixedNode}
-use Rattle.avro_types.specs.Datum.{Datum, Data, Pairs, NullDatum, BooleanDatum, IntDatum, LongDatum, BytesDatum, TextDatum, FixedDatum, EnumDatum, ArrayDatum, MapDatum, UnionDatum, RecordDatum, no_more, more, no_pairs, pair, how_many, how_many_pairs}
-use Rattle.avro_bytes.specs.declared.limits.TheConstants.{MOST_CONTENT}
-use Rattle.avro_types.specs.Sizes.{HasSizesWithin, HaveSizesWithin, HavePairsWithin}
-use Rattle.avro_datum.specs.Conforming.{IsWritable, most_items}
-use Rattle.avro_datum.specs.Spelling.{Spells, SpellsFields, SpellsItems, SpellsPairs, units_of, units_of_data, units_of_items, units_of_pairs}
+use Rattle.spec_avro.specs.Conforming.{Conforms, ConformAll, ConformPairs, ConformsEach, HasBits}
+use Rattle.spec_avro.specs.Node.{Node, FieldNode, FixedNode}
+use Rattle.spec_avro.specs.Datum.{Datum, Data, Pairs, NullDatum, BooleanDatum, IntDatum, LongDatum, BytesDatum, TextDatum, FixedDatum, EnumDatum, ArrayDatum, MapDatum, UnionDatum, RecordDatum, no_more, more, no_pairs, pair, how_many, how_many_pairs}
+use Rattle.spec_avro.specs.declared.limits.TheConstants.{MOST_CONTENT}
+use Rattle.spec_avro.specs.Sizes.{HasSizesWithin, HaveSizesWithin, HavePairsWithin}
+use Rattle.spec_avro.specs.Writable.{IsWritable, most_items}
+use Rattle.spec_avro.specs.Spelling.{Spells, SpellsFields, SpellsItems, SpellsPairs, units_of, units_of_data, units_of_items, units_of_pairs}
 
 bits_of : (n : ℤ) (bits : ℕ) → zigzag n < 2 * 2 ^ bits → HasBits bits n
 bits_of (pos n) bits h = omega arith

@@ -2,23 +2,24 @@
 use Rattle.std.proofs.Common.{◌≡◌, ℕ, ◌+◌, ◌<◌, List, [], ◌∷◌, ◌++◌, length, refl, sym, ap, ◌∙◌, arith, inl, inr, ◌⊎◌}
 use Rattle.std.proofs.lemmas.List.{append-nil, length-append}
 use Rattle.std.proofs.lemmas.Bool.{cases_lt}
-use Rattle.avro_bytes.specs.declared.meter.Meter.{Meter}
-use Rattle.avro_bytes.specs.declared.fault.MalformedKind.{MalformedKind}
-use Rattle.avro_bytes.specs.declared.fault.MalformedKind.TheVariants.{Truncated, Trailing}
-use Rattle.avro_bytes.specs.Meter.{start}
+use Rattle.spec_avro.specs.declared.meter.Meter.{Meter}
+use Rattle.spec_avro.specs.declared.malformed.MalformedKind.{MalformedKind}
+use Rattle.spec_avro.specs.declared.malformed.MalformedKind.TheVariants.{Truncated, Trailing}
+use Rattle.spec_avro.specs.Meter.{start}
 use Rattle.avro_bytes.specs.Laws.Binds.{complete_is, stands_within}
-use Rattle.avro_types.specs.Node.{Node}
-use Rattle.avro_types.specs.Datum.{Datum}
+use Rattle.spec_avro.specs.Node.{Node}
+use Rattle.spec_avro.specs.Datum.{Datum}
 use Rattle.avro_datum.specs.Decoding.{datum_at}
-use Rattle.avro_datum.specs.Fault.{FirstFault, malformed, truncated, trailing}
-use Rattle.avro_datum.specs.Payload.{IsPayload}
-use Rattle.avro_datum.specs.Spelling.{Spells, Fits, units_of}
+use Rattle.spec_avro.specs.FaultyDatum.{FirstFault, malformed, truncated, trailing}
+use Rattle.spec_avro.specs.Payload.{IsPayload}
+use Rattle.spec_avro.specs.Spelling.{Spells, Fits, units_of}
 use Rattle.avro_datum.specs.Laws.Complete.{datum_complete}
 use Rattle.avro_datum.specs.Laws.Told.{datum_told}
 use Rattle.avro_datum.specs.Laws.OneForm.{datum_one_form}
 use Rattle.avro_datum.specs.Laws.Sound.{datum_sound}
 use Rattle.avro_datum.proofs.Payloads.{is_whole, is_trailing, is_truncated, is_malformed}
-use Rattle.avro_bytes.specs.Decoding.{Complete, Decoding, Failed, Malformed, Need}
+use Rattle.avro_bytes.specs.Decoding.{Complete, Decoding, Failed}
+use Rattle.spec_avro.specs.Defect.{Malformed, Need}
 
 abbrev pub units_after : Datum → Meter
 units_after d = record { depth = 0; units = units_of d }

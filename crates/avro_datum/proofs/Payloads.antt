@@ -1,19 +1,20 @@
 -- What a whole payload is, from what decoding gives at its first place.
 use Rattle.std.proofs.Common.{◌≡◌, ◌≢◌, ℕ, List, [], ◌∷◌, ◌++◌, length, refl, sym, ap, subst, ◌∙◌, arith}
 use Rattle.std.proofs.lemmas.List.{append-nil, length-append}
-use Rattle.avro_bytes.specs.declared.meter.Meter.{Meter}
-use Rattle.avro_bytes.specs.declared.fault.MalformedKind.{MalformedKind}
-use Rattle.avro_bytes.specs.declared.fault.MalformedKind.TheVariants.{Truncated, Trailing}
-use Rattle.avro_bytes.specs.Meter.{start, Counts}
-use Rattle.avro_types.specs.Node.{Node}
-use Rattle.avro_types.specs.Datum.{Datum}
+use Rattle.spec_avro.specs.declared.meter.Meter.{Meter}
+use Rattle.spec_avro.specs.declared.malformed.MalformedKind.{MalformedKind}
+use Rattle.spec_avro.specs.declared.malformed.MalformedKind.TheVariants.{Truncated, Trailing}
+use Rattle.spec_avro.specs.Meter.{start, Counts}
+use Rattle.spec_avro.specs.Node.{Node}
+use Rattle.spec_avro.specs.Datum.{Datum}
 use Rattle.avro_datum.specs.Decoding.{datum_at}
-use Rattle.avro_datum.specs.Fault.{FaultyDatum, FirstFault, malformed, truncated, trailing}
-use Rattle.avro_datum.specs.Payload.{IsPayload}
-use Rattle.avro_datum.specs.Spelling.{Spells, Fits, depth_of, units_of}
+use Rattle.spec_avro.specs.FaultyDatum.{FaultyDatum, FirstFault, malformed, truncated, trailing}
+use Rattle.spec_avro.specs.Payload.{IsPayload}
+use Rattle.spec_avro.specs.Spelling.{Spells, Fits, depth_of, units_of}
 use Rattle.avro_datum.specs.Laws.Defects.{datum_defect}
 use Rattle.avro_datum.specs.Laws.Sound.{datum_sound}
-use Rattle.avro_bytes.specs.Decoding.{Complete, Decoding, Failed, Malformed, Need}
+use Rattle.avro_bytes.specs.Decoding.{Complete, Decoding, Failed}
+use Rattle.spec_avro.specs.Defect.{Malformed, Need}
 use Rattle.avro_bytes.specs.Fault.{HasDefect}
 
 counted_fits : (d : Datum) (after : Meter) → Counts (depth_of d) (units_of d) start after → Fits d

@@ -3,24 +3,24 @@ use Rattle.std.proofs.Common.{None, ◌≡◌, ℕ, zero, suc, ◌+◌, ◌<◌,
 use Rattle.std.proofs.lemmas.List.{append-nil, length-append}
 use Rattle.std.proofs.lemmas.Option.{slice_get_within}
 use Rattle.std.specs.Str.{IsUtf8}
-use Rattle.avro_bytes.specs.Blob.{IsBlob}
-use Rattle.avro_bytes.specs.Blocks.{IsItems, joined}
-use Rattle.avro_bytes.specs.Number.{IsNumber64, int_limit, long_limit}
-use Rattle.avro_bytes.specs.Shortest.{shortest, FitsLimit}
-use Rattle.avro_bytes.specs.Text.{IsText}
+use Rattle.spec_avro.specs.Blob.{IsBlob}
+use Rattle.spec_avro.specs.Blocks.{IsItems, joined}
+use Rattle.spec_avro.specs.Number.{IsNumber64, int_limit, long_limit}
+use Rattle.spec_avro.specs.Shortest.{shortest}
+use Rattle.avro_bytes.specs.Shortest.{FitsLimit}
+use Rattle.spec_avro.specs.Text.{IsText}
 use Rattle.avro_bytes.specs.Laws.Shortests.{shortest_is_number, shortest_is_shortest}
-use Rattle.avro_types.specs.declared.limits.TheConstants.{MOST_SYMBOLS}
-use Rattle.avro_types.specs.Conforming.{Conforms, ConformAll, ConformPairs, ConformsEach, HasBits}
-use Rattle.avro_types.specs.Node.{Node, FieldNode, EnumNode, UnionNode}
-use Rattle.avro_types.specs.WellFormed.{IsWellFormed}
-use Rattle.avro_types.specs.Datum.{Datum, Data, Pairs, NullDatum, BooleanDatum, IntDatum, LongDatum, BytesDatum, TextDatum, FixedDatum, EnumDatum, ArrayDatum, MapDatum, UnionDatum, RecordDatum, no_more, more, no_pairs, pair, how_many, how_many_pairs}
-use Rattle.avro_datum.specs.Conforming.{IsWritable, AreWritable, AreWritablePairs, most_items}
-use Rattle.avro_datum.specs.Spelling.{Spells, SpellsFields, SpellsItems, SpellsPairs}
-use Rattle.avro_bytes.specs.Written.{after_length, in_block}
-use Rattle.avro_datum.specs.Writing.{written, written_data, written_pairs}
+use Rattle.spec_avro.specs.declared.limits.TheConstants.{MOST_SYMBOLS, MOST_CONTENT}
+use Rattle.spec_avro.specs.Conforming.{Conforms, ConformAll, ConformPairs, ConformsEach, HasBits}
+use Rattle.spec_avro.specs.Node.{Node, FieldNode, EnumNode, UnionNode}
+use Rattle.spec_avro.specs.WellFormed.{IsWellFormed}
+use Rattle.spec_avro.specs.Datum.{Datum, Data, Pairs, NullDatum, BooleanDatum, IntDatum, LongDatum, BytesDatum, TextDatum, FixedDatum, EnumDatum, ArrayDatum, MapDatum, UnionDatum, RecordDatum, no_more, more, no_pairs, pair, how_many, how_many_pairs}
+use Rattle.spec_avro.specs.Writable.{IsWritable, AreWritable, AreWritablePairs, most_items}
+use Rattle.spec_avro.specs.Spelling.{Spells, SpellsFields, SpellsItems, SpellsPairs}
+use Rattle.spec_avro.specs.Written.{after_length, in_block}
+use Rattle.spec_avro.specs.Writing.{written, written_data, written_pairs}
 use Rattle.avro_datum.proofs.ByKind.{member_of}
 use Rattle.avro_datum.proofs.Counts.{block_len, items_longer}
-use Rattle.avro_bytes.specs.declared.limits.TheConstants.{MOST_CONTENT}
 
 -- ---- a number's width, and its zig-zag
 

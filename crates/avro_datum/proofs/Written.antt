@@ -5,12 +5,14 @@ use Rattle.std.proofs.lemmas.List.{length-append}
 use Rattle.std.specs.Global.{Vec}
 use Rattle.avro_types.specs.declared.datum.Datum as rust
 use Rattle.std.specs.Prelude.{OnErr}
-use Rattle.avro_types.specs.Datum.{datum_of, data_of, pairs_of, how_many, how_many_pairs}
+use Rattle.avro_types.specs.Datum.{datum_of, data_of, pairs_of}
+use Rattle.spec_avro.specs.Datum.{how_many, how_many_pairs}
 use Rattle.avro_types.specs.Laws.DatumOf.{datum_of-Array, datum_of-Map, datum_of-Record}
-use Rattle.avro_bytes.specs.Shortest.{Extends, shortest}
+use Rattle.avro_bytes.specs.Shortest.{Extends}
+use Rattle.spec_avro.specs.Shortest.{shortest}
 use Rattle.avro_datum.proofs.Counts.{block_len}
-use Rattle.avro_bytes.specs.Written.{after_length, block_count, in_block}
-use Rattle.avro_datum.specs.Writing.{written, written_data, written_pairs}
+use Rattle.spec_avro.specs.Written.{after_length, block_count, in_block}
+use Rattle.spec_avro.specs.Writing.{written, written_data, written_pairs}
 
 pub record_written : (v : Vec rust.Datum) → written (datum_of (rust.Record v)) ≡ written_data (data_of v.items)
 unfolding written

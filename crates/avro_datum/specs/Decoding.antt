@@ -1,19 +1,20 @@
 -- Decoding a datum of a node at an offset of the bytes (Avro 1.11, "Binary Encoding").
 use Rattle.std.specs.Prelude.{ℕ, zero, suc, ◌-◌, List, [], ◌∷◌, length, Option, Some, None, slice_get}
-use Rattle.avro_bytes.specs.declared.fault.MalformedKind.TheVariants.{BadEnum, BadBranch}
-use Rattle.avro_bytes.specs.declared.meter.Meter.{Meter}
-use Rattle.avro_bytes.specs.declared.limits.TheConstants.{MOST_DEPTH}
+use Rattle.spec_avro.specs.declared.malformed.MalformedKind.TheVariants.{BadEnum, BadBranch}
+use Rattle.spec_avro.specs.declared.meter.Meter.{Meter}
+use Rattle.spec_avro.specs.declared.limits.TheConstants.{MOST_DEPTH}
 use Rattle.avro_bytes.specs.Blob.{fixed_at, content_at}
 use Rattle.avro_bytes.specs.Boolean.{boolean_at}
 use Rattle.avro_bytes.specs.Meter.{opened_record}
-use Rattle.avro_bytes.specs.Number.{int_limit, long_limit}
+use Rattle.spec_avro.specs.Number.{int_limit, long_limit}
 use Rattle.avro_bytes.specs.NumberDecoding.{number_at}
 use Rattle.avro_bytes.specs.Text.{text_at}
-use Rattle.avro_types.specs.Node.{Node, FieldNode, NullNode, BooleanNode, IntNode, LongNode, BytesNode, TextNode, FixedNode, EnumNode, ArrayNode, MapNode, UnionNode, RecordNode}
-use Rattle.avro_types.specs.Datum.{Datum, Data, Pairs, NullDatum, BooleanDatum, IntDatum, LongDatum, BytesDatum, TextDatum, FixedDatum, EnumDatum, ArrayDatum, MapDatum, UnionDatum, RecordDatum, no_more, more, no_pairs, pair}
+use Rattle.spec_avro.specs.Node.{Node, FieldNode, NullNode, BooleanNode, IntNode, LongNode, BytesNode, TextNode, FixedNode, EnumNode, ArrayNode, MapNode, UnionNode, RecordNode}
+use Rattle.spec_avro.specs.Datum.{Datum, Data, Pairs, NullDatum, BooleanDatum, IntDatum, LongDatum, BytesDatum, TextDatum, FixedDatum, EnumDatum, ArrayDatum, MapDatum, UnionDatum, RecordDatum, no_more, more, no_pairs, pair}
 use Rattle.avro_datum.specs.ItemDecoding.{Reader, blocks_at}
 use Rattle.avro_bytes.specs.Position.{position_at}
-use Rattle.avro_bytes.specs.Decoding.{Complete, Decoding, Failed, Need, inside, map_decoding, ◌>>=◌}
+use Rattle.avro_bytes.specs.Decoding.{Complete, Decoding, Failed, inside, map_decoding, ◌>>=◌}
+use Rattle.spec_avro.specs.Defect.{Need}
 
 -- what decodes a datum of a node at an offset
 abbrev pub Decoder : Type 0

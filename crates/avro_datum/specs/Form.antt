@@ -1,6 +1,6 @@
 -- The form of the data of a node, as its callers see it.
 use Rattle.std.specs.Prelude.{ℕ, List}
-use Rattle.avro_types.specs.Node.{Node}
+use Rattle.spec_avro.specs.Node.{Node}
 
 -- the nodes, and which of them it is
 pub record Form : Type 0 where

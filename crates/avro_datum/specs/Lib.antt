@@ -1,12 +1,8 @@
-pub mod Conforming
 pub mod Decoding
-pub mod Fault
 pub mod Form
 pub mod ItemDecoding
-pub mod ItemFault
 pub mod Laws
 pub mod Memory
 pub mod Payload
-pub mod Spelling
 pub mod View
 pub mod Writing

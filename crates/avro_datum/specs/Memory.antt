@@ -1,8 +1,8 @@
 -- Where reading a datum of a node may run out of memory. This project's own rules: the standard says nothing of memory.
 use Rattle.std.specs.Prelude.{◌≡◌, ◌⊎◌, ℕ, List, Option, Some, None, slice_get, Bool, true, false}
 use Rattle.avro_bytes.specs.Decoding.{Decoding, IsComplete}
-use Rattle.avro_types.specs.Datum.{Datum}
-use Rattle.avro_types.specs.Node.{Node, BytesNode, TextNode, FixedNode, ArrayNode, MapNode, UnionNode, RecordNode}
+use Rattle.spec_avro.specs.Datum.{Datum}
+use Rattle.spec_avro.specs.Node.{Node, BytesNode, TextNode, FixedNode, ArrayNode, MapNode, UnionNode, RecordNode}
 
 -- bytes, a text and a fixed are copied once they are all there; null, a boolean, a number and an enum take no memory
 abbrev pub LeafLacks : Node → Decoding Datum → Type 0

@@ -1,20 +1,16 @@
--- What a whole payload is (Avro 1.11, "Binary Encoding"), and what reading one answers.
+-- What reading a whole payload answers. This project's own.
 use Rattle.std.specs.Prelude.{ℕ, List, Result, Ok, Err}
 use Rattle.avro_types.specs.declared.datum.Datum as rust
-use Rattle.avro_types.specs.Node.{Node}
-use Rattle.avro_types.specs.Datum.{Datum, datum_of}
+use Rattle.spec_avro.specs.Node.{Node}
+use Rattle.spec_avro.specs.Datum.{Datum}
+use Rattle.avro_types.specs.Datum.{datum_of}
 use Rattle.avro_datum.specs.declared.payload.PayloadError.{PayloadError}
 use Rattle.avro_datum.specs.declared.payload.PayloadError.TheVariants.{Malformed, NoMemory}
-use Rattle.avro_bytes.specs.Meter.{start}
+use Rattle.spec_avro.specs.Meter.{start}
 use Rattle.avro_datum.specs.Decoding.{datum_at}
 use Rattle.avro_datum.specs.Memory.{Lacks}
-use Rattle.avro_datum.specs.Spelling.{Spells, Fits}
-use Rattle.avro_datum.specs.Fault.{FirstFault}
-
--- the payload spells a datum of the root, within the limits
-pub record IsPayload (nodes : List Node) (d : Datum) (payload : List ℕ) : Type 0 where
-  pub spelled : Spells nodes 0 d payload
-  pub fits : Fits d
+use Rattle.spec_avro.specs.FaultyDatum.{FirstFault}
+use Rattle.spec_avro.specs.Payload.{IsPayload}
 
 -- what reading a whole payload answers: the datum that it spells, or its first fault; or memory ran out
 abbrev pub ReadsAll : List Node → List ℕ → Result rust.Datum PayloadError → Type 0

@@ -2,7 +2,8 @@
 use Rattle.std.specs.Prelude.{ℕ, List, map, String, string_bytes}
 use Rattle.std.specs.Global.{Global}
 use Rattle.avro_types.specs.declared.datum.Datum as rust
-use Rattle.avro_types.specs.Datum.{Datum, datum_of}
+use Rattle.spec_avro.specs.Datum.{Datum}
+use Rattle.avro_types.specs.Datum.{datum_of}
 
 abbrev pub each_datum : List rust.Datum → List Datum
 each_datum ds = map datum_of ds

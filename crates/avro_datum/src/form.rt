@@ -43,12 +43,13 @@ impl<'s> NodeForm<'s> {
 }
 
 impl<'s> WireForm for NodeForm<'s> {
-    ghost use Rattle.avro_bytes.specs.Meter.{Counts};
-    ghost use Rattle.avro_types.specs.Datum as datum;
+    ghost use Rattle.spec_avro.specs.Meter.{Counts};
+    ghost use Rattle.spec_avro.specs.Datum as datum;
+    ghost use Rattle.avro_types.specs.Datum as datum_here;
     ghost use Rattle.avro_datum.specs.Decoding.{datum_at};
-    ghost use Rattle.avro_datum.specs.Fault.{FaultyDatum};
+    ghost use Rattle.spec_avro.specs.FaultyDatum.{FaultyDatum};
     ghost use Rattle.avro_datum.specs.Memory.{Lacks};
-    ghost use Rattle.avro_datum.specs.Spelling.{Spells, depth_of, units_of};
+    ghost use Rattle.spec_avro.specs.Spelling.{Spells, depth_of, units_of};
     ghost use Rattle.avro_datum.specs.Laws.Complete.{datum_complete};
     ghost use Rattle.avro_datum.specs.Laws.Defects.{datum_defect};
     ghost use Rattle.avro_datum.specs.Laws.OneForm.{datum_one_form};
@@ -60,7 +61,7 @@ impl<'s> WireForm for NodeForm<'s> {
 
     ghost Meaning = { datum.Datum };
 
-    ghost meaning = { datum.datum_of };
+    ghost meaning = { datum_here.datum_of };
 
     ghost spells = { λ f d bytes. Spells f.nodes f.node d bytes };
 

@@ -1,16 +1,16 @@
 //! Laws of payloads and of written data. They do nothing when they run.
 
 ghost use Rattle.std.specs.Prelude.{◌≡◌, ◌≤◌, ◌⊎◌, ℕ, List, length};
-ghost use Rattle.avro_bytes.specs.declared.fault.MalformedKind.{MalformedKind};
-ghost use Rattle.avro_types.specs.Conforming.{Conforms};
-ghost use Rattle.avro_types.specs.Node.{Node};
-ghost use Rattle.avro_types.specs.WellFormed.{IsWellFormed};
-ghost use Rattle.avro_types.specs.Datum as datum;
-ghost use Rattle.avro_datum.specs.Conforming.{IsWritable, most_items};
-ghost use Rattle.avro_datum.specs.Fault.{FirstFault};
-ghost use Rattle.avro_datum.specs.Payload.{IsPayload};
-ghost use Rattle.avro_datum.specs.Spelling.{Spells, units_of};
-ghost use Rattle.avro_datum.specs.Writing.{written};
+ghost use Rattle.spec_avro.specs.declared.malformed.MalformedKind.{MalformedKind};
+ghost use Rattle.spec_avro.specs.Conforming.{Conforms};
+ghost use Rattle.spec_avro.specs.Node.{Node};
+ghost use Rattle.spec_avro.specs.WellFormed.{IsWellFormed};
+ghost use Rattle.spec_avro.specs.Datum as datum;
+ghost use Rattle.spec_avro.specs.Writable.{IsWritable, most_items};
+ghost use Rattle.spec_avro.specs.FaultyDatum.{FirstFault};
+ghost use Rattle.spec_avro.specs.Payload.{IsPayload};
+ghost use Rattle.spec_avro.specs.Spelling.{Spells, units_of};
+ghost use Rattle.spec_avro.specs.Writing.{written};
 
 /// The law that a payload encodes one datum or has one first fault, and never both.
 pub fn payload_is_spelled_or_faulty()

@@ -3,6 +3,7 @@
 //! Data by a schema: reading, skipping and writing them (Avro 1.11 Specification, "Binary Encoding").
 #![tactic(auto)]
 
+mod block_cursor;
 mod form;
 mod laws;
 mod leaf;

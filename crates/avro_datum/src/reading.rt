@@ -4,15 +4,16 @@ ghost use Rattle.std.specs.Prelude.{◌≡◌, ◌<◌, ◌≤◌, ◌-◌, ◌+
 ghost use Rattle.avro_bytes.specs.Contract.{Gathers, Reads};
 ghost use Rattle.avro_types.specs.Datum.{data_of, datum_of};
 ghost use Rattle.avro_types.specs.Node.{fields_of};
-ghost use Rattle.avro_types.specs.WellFormed.{FieldsBelow, is_union};
+ghost use Rattle.spec_avro.specs.WellFormed.{FieldsBelow, is_union};
 ghost use Rattle.avro_datum.specs.Decoding.{datum_at, fields_at, node_at, pair_at};
 ghost use Rattle.avro_datum.specs.ItemDecoding.{items_at, steps_left};
 ghost use Rattle.avro_datum.specs.Memory.{Lacks};
 ghost use Rattle.avro_datum.specs.View.{each_datum, each_pair, pair_of};
 
+use crate::block_cursor::BlockCursor;
 use crate::leaf::read_leaf;
 use avro_bytes::{
-    BlockWalk, Fault, MOST_DEPTH, MalformedKind, Meter, Text, WireForm, read_position,
+    BlockWalk, Fault, MOST_DEPTH, MalformedKind, Meter, Text, WireForm, enter_record, read_position,
 };
 use avro_types::{Datum, Field, Kind, Nodes};
 use std::alloc::Global;
@@ -65,7 +66,7 @@ fn read_plain(
     let kind = nodes.kind(node);
     match kind {
         Kind::Record { fields, .. } => {
-            let inside = meter.enter_record(at)?;
+            let inside = enter_record(meter, at)?;
             let (data, to, after) = read_fields(alloc, nodes, fields, bytes, at, inside)?;
             let outside = Meter {
                 depth: meter.depth,
@@ -75,12 +76,22 @@ fn read_plain(
         }
         Kind::Array(inner) => {
             let (walk, inside) = BlockWalk::begin(at, meter)?;
-            let (data, to, after) = read_items(alloc, nodes, *inner, walk, bytes, at, inside)?;
+            let from = BlockCursor {
+                walk,
+                at,
+                meter: inside,
+            };
+            let (data, to, after) = read_items(alloc, nodes, *inner, bytes, from)?;
             Ok((Datum::Array(data), to, after))
         }
         Kind::Map(inner) => {
             let (walk, inside) = BlockWalk::begin(at, meter)?;
-            let (pairs, to, after) = read_pairs(alloc, nodes, *inner, walk, bytes, at, inside)?;
+            let from = BlockCursor {
+                walk,
+                at,
+                meter: inside,
+            };
+            let (pairs, to, after) = read_pairs(alloc, nodes, *inner, bytes, from)?;
             Ok((Datum::Map(pairs), to, after))
         }
         Kind::Union(_) => unreachable!(),
@@ -124,25 +135,23 @@ fn read_items(
     alloc: Global,
     nodes: &Nodes,
     inner: usize,
-    walk: BlockWalk,
     bytes: &[u8],
-    at: usize,
-    meter: Meter,
+    from: BlockCursor,
 ) -> Result<(Vec<Datum>, usize, Meter), Fault>
     requires inner { inner < length nodes.now }
-    requires in_bounds { at ≤ length bytes.now }
-    requires deep { 0 < meter.depth }
+    requires in_bounds { from.at ≤ length bytes.now }
+    requires deep { 0 < from.meter.depth }
     ensures reads { Gathers (λ v. each_datum v.items) result
-        (items_at (steps_left meter) (node_at (MOST_DEPTH - meter.depth) nodes.now bytes.now inner)
-        bytes.now walk at meter) }
+        (items_at (steps_left from.meter) (node_at (MOST_DEPTH - from.meter.depth) nodes.now bytes.now inner)
+        bytes.now from.walk from.at from.meter) }
     ensures within { IfOk result (λ r. r.1 ≤ length bytes.now) }
-    ensures depth { IfOk result (λ r. r.2.depth + 1 ≡ meter.depth) }
-    ensures units { IfOk result (λ r. meter.units ≤ r.2.units) }
+    ensures depth { IfOk result (λ r. r.2.depth + 1 ≡ from.meter.depth) }
+    ensures units { IfOk result (λ r. from.meter.units ≤ r.2.units) }
 {
-    let mut walk = walk;
+    let mut walk = from.walk;
     let mut data = Vec::new(alloc);
-    let mut to = at;
-    let mut so_far = meter;
+    let mut to = from.at;
+    let mut so_far = from.meter;
     loop {
         let (further, place, opened) = walk.next(bytes, to, so_far)?;
         if !further {
@@ -161,25 +170,24 @@ fn read_pairs(
     alloc: Global,
     nodes: &Nodes,
     inner: usize,
-    walk: BlockWalk,
     bytes: &[u8],
-    at: usize,
-    meter: Meter,
+    from: BlockCursor,
 ) -> Result<(Vec<(String, Datum)>, usize, Meter), Fault>
     requires inner { inner < length nodes.now }
-    requires in_bounds { at ≤ length bytes.now }
-    requires deep { 0 < meter.depth }
+    requires in_bounds { from.at ≤ length bytes.now }
+    requires deep { 0 < from.meter.depth }
     ensures reads { Gathers (λ v. each_pair v.items) result
-        (items_at (steps_left meter)
-        (pair_at (node_at (MOST_DEPTH - meter.depth) nodes.now bytes.now) bytes.now inner) bytes.now walk at meter) }
+        (items_at (steps_left from.meter)
+        (pair_at (node_at (MOST_DEPTH - from.meter.depth) nodes.now bytes.now) bytes.now inner) bytes.now from.walk
+        from.at from.meter) }
     ensures within { IfOk result (λ r. r.1 ≤ length bytes.now) }
-    ensures depth { IfOk result (λ r. r.2.depth + 1 ≡ meter.depth) }
-    ensures units { IfOk result (λ r. meter.units ≤ r.2.units) }
+    ensures depth { IfOk result (λ r. r.2.depth + 1 ≡ from.meter.depth) }
+    ensures units { IfOk result (λ r. from.meter.units ≤ r.2.units) }
 {
-    let mut walk = walk;
+    let mut walk = from.walk;
     let mut pairs = Vec::new(alloc);
-    let mut to = at;
-    let mut so_far = meter;
+    let mut to = from.at;
+    let mut so_far = from.meter;
     loop {
         let (further, place, opened) = walk.next(bytes, to, so_far)?;
         if !further {

@@ -3,13 +3,14 @@
 ghost use Rattle.std.specs.Prelude.{◌≡◌, ◌<◌, ◌≤◌, ◌-◌, ◌+◌, length, slice_get, false, IfOk};
 ghost use Rattle.avro_bytes.specs.Contract.{skipped};
 ghost use Rattle.avro_types.specs.Node.{fields_of};
-ghost use Rattle.avro_types.specs.WellFormed.{FieldsBelow, is_union};
+ghost use Rattle.spec_avro.specs.WellFormed.{FieldsBelow, is_union};
 ghost use Rattle.avro_datum.specs.Decoding.{datum_at, fields_at, node_at, pair_at};
 ghost use Rattle.avro_datum.specs.ItemDecoding.{items_at, steps_left};
 
+use crate::block_cursor::BlockCursor;
 use crate::leaf::skip_leaf;
 use avro_bytes::{
-    BlockWalk, Fault, MOST_DEPTH, MalformedKind, Meter, Text, WireForm, read_position,
+    BlockWalk, Fault, MOST_DEPTH, MalformedKind, Meter, Text, WireForm, enter_record, read_position,
 };
 use avro_types::{Field, Kind, Nodes};
 use std::alloc::Global;
@@ -59,7 +60,7 @@ fn skip_plain(
     let kind = nodes.kind(node);
     match kind {
         Kind::Record { fields, .. } => {
-            let inside = meter.enter_record(at)?;
+            let inside = enter_record(meter, at)?;
             let (to, after) = skip_fields(alloc, nodes, fields, bytes, at, inside)?;
             let outside = Meter {
                 depth: meter.depth,
@@ -69,11 +70,21 @@ fn skip_plain(
         }
         Kind::Array(inner) => {
             let (walk, inside) = BlockWalk::begin(at, meter)?;
-            skip_items(alloc, nodes, *inner, walk, bytes, at, inside)
+            let from = BlockCursor {
+                walk,
+                at,
+                meter: inside,
+            };
+            skip_items(alloc, nodes, *inner, bytes, from)
         }
         Kind::Map(inner) => {
             let (walk, inside) = BlockWalk::begin(at, meter)?;
-            skip_pairs(alloc, nodes, *inner, walk, bytes, at, inside)
+            let from = BlockCursor {
+                walk,
+                at,
+                meter: inside,
+            };
+            skip_pairs(alloc, nodes, *inner, bytes, from)
         }
         Kind::Union(_) => unreachable!(),
         _ => skip_leaf(alloc, kind, bytes, at, meter),
@@ -114,24 +125,22 @@ fn skip_items(
     alloc: Global,
     nodes: &Nodes,
     inner: usize,
-    walk: BlockWalk,
     bytes: &[u8],
-    at: usize,
-    meter: Meter,
+    from: BlockCursor,
 ) -> Result<(usize, Meter), Fault>
     requires inner { inner < length nodes.now }
-    requires in_bounds { at ≤ length bytes.now }
-    requires deep { 0 < meter.depth }
+    requires in_bounds { from.at ≤ length bytes.now }
+    requires deep { 0 < from.meter.depth }
     ensures skips { result ≡ skipped
-        (items_at (steps_left meter) (node_at (MOST_DEPTH - meter.depth) nodes.now bytes.now inner)
-        bytes.now walk at meter) }
+        (items_at (steps_left from.meter) (node_at (MOST_DEPTH - from.meter.depth) nodes.now bytes.now inner)
+        bytes.now from.walk from.at from.meter) }
     ensures within { IfOk result (λ r. r.0 ≤ length bytes.now) }
-    ensures depth { IfOk result (λ r. r.1.depth + 1 ≡ meter.depth) }
-    ensures units { IfOk result (λ r. meter.units ≤ r.1.units) }
+    ensures depth { IfOk result (λ r. r.1.depth + 1 ≡ from.meter.depth) }
+    ensures units { IfOk result (λ r. from.meter.units ≤ r.1.units) }
 {
-    let mut walk = walk;
-    let mut to = at;
-    let mut so_far = meter;
+    let mut walk = from.walk;
+    let mut to = from.at;
+    let mut so_far = from.meter;
     loop {
         let (further, place, opened) = walk.next(bytes, to, so_far)?;
         if !further {
@@ -149,24 +158,23 @@ fn skip_pairs(
     alloc: Global,
     nodes: &Nodes,
     inner: usize,
-    walk: BlockWalk,
     bytes: &[u8],
-    at: usize,
-    meter: Meter,
+    from: BlockCursor,
 ) -> Result<(usize, Meter), Fault>
     requires inner { inner < length nodes.now }
-    requires in_bounds { at ≤ length bytes.now }
-    requires deep { 0 < meter.depth }
+    requires in_bounds { from.at ≤ length bytes.now }
+    requires deep { 0 < from.meter.depth }
     ensures skips { result ≡ skipped
-        (items_at (steps_left meter)
-        (pair_at (node_at (MOST_DEPTH - meter.depth) nodes.now bytes.now) bytes.now inner) bytes.now walk at meter) }
+        (items_at (steps_left from.meter)
+        (pair_at (node_at (MOST_DEPTH - from.meter.depth) nodes.now bytes.now) bytes.now inner) bytes.now from.walk
+        from.at from.meter) }
     ensures within { IfOk result (λ r. r.0 ≤ length bytes.now) }
-    ensures depth { IfOk result (λ r. r.1.depth + 1 ≡ meter.depth) }
-    ensures units { IfOk result (λ r. meter.units ≤ r.1.units) }
+    ensures depth { IfOk result (λ r. r.1.depth + 1 ≡ from.meter.depth) }
+    ensures units { IfOk result (λ r. from.meter.units ≤ r.1.units) }
 {
-    let mut walk = walk;
-    let mut to = at;
-    let mut so_far = meter;
+    let mut walk = from.walk;
+    let mut to = from.at;
+    let mut so_far = from.meter;
     loop {
         let (further, place, opened) = walk.next(bytes, to, so_far)?;
         if !further {

@@ -3,8 +3,9 @@
 ghost use Rattle.std.specs.Prelude.{◌≡◌, ◌++◌, ◌+◌, ◌<◌, ◌^◌, [], length, OnOk, OnErr};
 ghost use Rattle.avro_bytes.specs.Shortest.{Extends};
 ghost use Rattle.avro_types.specs.Datum.{data_of, datum_of, pairs_of};
-ghost use Rattle.avro_bytes.specs.Written.{after_length, block_count, in_block};
-ghost use Rattle.avro_datum.specs.Writing.{LeavesRoom, Writes, written, written_data, written_pairs};
+ghost use Rattle.spec_avro.specs.Written.{after_length, block_count, in_block};
+ghost use Rattle.avro_datum.specs.Writing.{LeavesRoom, Writes};
+ghost use Rattle.spec_avro.specs.Writing.{written, written_data, written_pairs};
 
 use avro_bytes::{MOST_OUTPUT, long_len, put_long};
 use avro_types::Datum;
@@ -50,7 +51,7 @@ fn measure_block(many: usize, room: usize) -> Option<usize>
 
 /// Returns what is left of `room` bytes after a datum in its written form; `None` where it has no room.
 #[cycle(measure)]
-#[tactic(auto, using(crate::proofs::Written::record_written, crate::proofs::Written::array_len, crate::proofs::Written::map_len), unfolding(crate::specs::Writing::written))]
+#[tactic(auto, using(crate::proofs::Written::record_written, crate::proofs::Written::array_len, crate::proofs::Written::map_len), unfolding(spec_avro::specs::Writing::written))]
 fn measure(datum: &Datum, room: usize) -> Option<usize>
     ensures { LeavesRoom result room (length (written (datum_of datum.now))) }
 {
@@ -72,7 +73,7 @@ fn measure(datum: &Datum, room: usize) -> Option<usize>
 
 /// Returns what is left of `room` bytes after data; `None` where they have no room.
 #[cycle(measure)]
-#[tactic(auto, using(crate::proofs::Written::written_from), unfolding(crate::specs::Writing::written))]
+#[tactic(auto, using(crate::proofs::Written::written_from), unfolding(spec_avro::specs::Writing::written))]
 fn measure_each(each: &[Datum], room: usize) -> Option<usize>
     ensures { LeavesRoom result room (length (written_data (data_of each.now))) }
 {
@@ -85,7 +86,7 @@ fn measure_each(each: &[Datum], room: usize) -> Option<usize>
 
 /// Returns what is left of `room` bytes after the pairs of a map; `None` where they have no room.
 #[cycle(measure)]
-#[tactic(auto, using(crate::proofs::Written::pairs_len_from), unfolding(crate::specs::Writing::written))]
+#[tactic(auto, using(crate::proofs::Written::pairs_len_from), unfolding(spec_avro::specs::Writing::written))]
 fn measure_pairs(pairs: &[(String, Datum)], room: usize) -> Option<usize>
     ensures { LeavesRoom result room (length (written_pairs (pairs_of pairs.now))) }
 {
@@ -120,7 +121,7 @@ fn put_count(out: &mut Vec<u8>, many: usize) -> Result<(), AllocError>
 
 /// Appends a datum in its written form. An `Err` leaves a beginning of it.
 #[cycle(put)]
-#[tactic(auto, using(crate::proofs::Written::record_written, crate::proofs::Written::array_written, crate::proofs::Written::map_written), unfolding(crate::specs::Writing::written))]
+#[tactic(auto, using(crate::proofs::Written::record_written, crate::proofs::Written::array_written, crate::proofs::Written::map_written), unfolding(spec_avro::specs::Writing::written))]
 fn put_datum(out: &mut Vec<u8>, datum: &Datum) -> Result<(), AllocError>
     ensures ok { OnOk result (out.new.items ≡ out.old.items ++ written (datum_of datum.now)) }
     ensures err { OnErr result (Extends out.old.items out.new.items) }
@@ -173,7 +174,7 @@ fn put_map(out: &mut Vec<u8>, pairs: &[(String, Datum)]) -> Result<(), AllocErro
 
 /// Appends data, in order. An `Err` leaves a beginning of them.
 #[cycle(put)]
-#[tactic(auto, using(crate::proofs::Written::written_from), unfolding(crate::specs::Writing::written))]
+#[tactic(auto, using(crate::proofs::Written::written_from), unfolding(spec_avro::specs::Writing::written))]
 fn put_each(out: &mut Vec<u8>, each: &[Datum]) -> Result<(), AllocError>
     ensures ok { OnOk result (out.new.items ≡ out.old.items ++ written_data (data_of each.now)) }
     ensures err { OnErr result (Extends out.old.items out.new.items) }
@@ -186,7 +187,7 @@ fn put_each(out: &mut Vec<u8>, each: &[Datum]) -> Result<(), AllocError>
 
 /// Appends the pairs of a map, in order. An `Err` leaves a beginning of them.
 #[cycle(put)]
-#[tactic(auto, using(crate::proofs::Written::pairs_from), unfolding(crate::specs::Writing::written))]
+#[tactic(auto, using(crate::proofs::Written::pairs_from), unfolding(spec_avro::specs::Writing::written))]
 fn put_pairs(out: &mut Vec<u8>, pairs: &[(String, Datum)]) -> Result<(), AllocError>
     ensures ok { OnOk result (out.new.items ≡ out.old.items ++ written_pairs (pairs_of pairs.now)) }
     ensures err { OnErr result (Extends out.old.items out.new.items) }

@@ -5,10 +5,10 @@ use Rattle.std.proofs.lemmas.List.{take_at, drop_at, take-append-drop, length-ap
 use Rattle.std.proofs.lemmas.List.Concat.{flat_map-cons}
 use Rattle.std.specs.List.{flat_map, AllByRecursion}
 use Rattle.std.specs.Int.{w16, w32}
-use Rattle.avro_bytes.specs.MismatchKind.{code_of as code_of_kind}
-use Rattle.avro_bytes.specs.declared.mismatch.Mismatch.{Mismatch}
-use Rattle.avro_bytes.specs.declared.mismatch.MismatchKind.{MismatchKind}
-use Rattle.avro_bytes.specs.declared.mismatch.MismatchKind.TheVariants as kinds
+use Rattle.spec_avro.specs.MismatchKind.{code_of as code_of_kind}
+use Rattle.spec_avro.specs.declared.mismatch.Mismatch.{Mismatch}
+use Rattle.spec_avro.specs.declared.mismatch.MismatchKind.{MismatchKind}
+use Rattle.spec_avro.specs.declared.mismatch.MismatchKind.TheVariants as kinds
 use Rattle.isa.specs.declared.entry.Entry.{Entry}
 use Rattle.isa.specs.declared.entry.Entry.TheVariants as entries
 use Rattle.isa.specs.declared.instr.Instr.{Instr}

@@ -5,12 +5,12 @@ use Rattle.std.proofs.lemmas.Bool.{le-leb, lt-leb}
 use Rattle.serde_json.specs.Data.{Data}
 use Rattle.serde_json.specs.Read.{read}
 use Rattle.serde_json.specs.Written.{has_float}
-use Rattle.avro_types.specs.declared.limits.TheConstants.{MOST_TEXT}
+use Rattle.spec_avro.specs.declared.limits.TheConstants.{MOST_TEXT}
 use Rattle.avro_schema_names.specs.declared.error.SchemaError.{SchemaError}
 use Rattle.avro_schema_names.specs.declared.error.SchemaError.TheVariants.{TooLarge, NotJson, BadNumber, BadDefault}
 use Rattle.avro_schema.specs.Contract.{run}
 use Rattle.avro_schema_names.specs.Fault.{◌>>=◌}
-use Rattle.avro_types.specs.Datum.{Datum}
+use Rattle.spec_avro.specs.Datum.{Datum}
 use Rattle.avro_schema.specs.Defaults.{all_defaults, finished, nodes_with}
 use Rattle.avro_schema_names.specs.Draft.{Draft}
 use Rattle.avro_schema.specs.Schema.{schema_of, nodes_in_read, declared}

@@ -3,18 +3,15 @@ use Rattle.std.proofs.Common.{◌≡◌, ℕ, ◌+◌, ◌<◌, ◌≤◌, List,
 use Rattle.std.proofs.lemmas.Bool.{lt-ltb}
 use Rattle.serde_json.specs.Data.{Data, string, array, object, Items, Members}
 use Rattle.serde_json.specs.Find.{get_member}
-use Rattle.avro_types.specs.declared.limits.TheConstants.{MOST_FIELDS, MOST_NODES}
+use Rattle.spec_avro.specs.declared.limits.TheConstants.{MOST_FIELDS, MOST_NODES}
 use Rattle.avro_schema_names.specs.Attributes.{symbols_of, default_symbol, size_of}
 use Rattle.avro_schema.specs.Contract.{object_walk, field_walk}
-use Rattle.avro_schema_names.specs.Draft.{Draft, Whole, RecordDraft, DraftField}
-use Rattle.avro_types.specs.FullNames.{full_name, is_name, namespace_of}
-use Rattle.avro_schema_names.specs.Head.{Head, ArrayHead, MapHead, UnionHead, Named, head_of, heads_of}
+use Rattle.avro_schema_names.specs.Draft.{Draft, Whole, RecordDraft, DraftField, draft_field}
+use Rattle.spec_avro.specs.FullNames.{full_name, is_name, namespace_of}
+use Rattle.avro_schema_names.specs.Head.{Head, ArrayHead, MapHead, UnionHead, Named, head_of, heads_of, head_at, are_apart}
 use Rattle.avro_schema_names.specs.Names.{field_name}
-use Rattle.avro_types.specs.Node.{Node, Names, ArrayNode, MapNode, UnionNode, EnumNode, FixedNode}
-use Rattle.avro_types.specs.Symbols.{are_new, is_used}
-use Rattle.avro_schema_names.specs.Draft.{draft_field}
-use Rattle.avro_schema_names.specs.Head.{head_at}
-use Rattle.avro_schema_names.specs.Head.{are_apart}
+use Rattle.spec_avro.specs.Node.{Node, Names, ArrayNode, MapNode, UnionNode, EnumNode, FixedNode}
+use Rattle.spec_avro.specs.Symbols.{are_new, is_used}
 use Rattle.avro_schema.specs.Walk.{Walk, around, done, enum_of, field, fields, fields_after, field_of, fixed_of, followed_by, if_room, members, named, record_of, reference, union_of, walk}
 use Rattle.avro_schema.proofs.Members.{walk-object, field-object}
 use Rattle.avro_schema_names.proofs.DraftLists.{length-heads_of, heads_of-append}

@@ -7,22 +7,19 @@ use Rattle.std.specs.declared.cmp.Ordering.TheVariants.{Less, Equal, Greater}
 use Rattle.std.proofs.lemmas.Bool.{ltb-true}
 use Rattle.serde_json.specs.Data.{Data, null, boolean, number, string, array, object, Items, no_items, item, Members, no_members, member}
 use Rattle.serde_json.specs.Find.{get_member}
-use Rattle.avro_types.specs.declared.limits.TheConstants.{MOST_FIELDS, MOST_NODES}
+use Rattle.spec_avro.specs.declared.limits.TheConstants.{MOST_FIELDS, MOST_NODES}
 use Rattle.avro_schema_names.specs.declared.error.SchemaError.{SchemaError}
 use Rattle.avro_schema_names.specs.declared.error.SchemaError.TheVariants.{TooLarge, BadName, BadUnion}
 use Rattle.avro_schema_names.specs.Attributes.{symbols_of, default_symbol, size_of}
 use Rattle.avro_schema.specs.Contract.{object_as, object_walk, field_walk}
-use Rattle.avro_schema_names.specs.Draft.{Draft, Whole, RecordDraft, DraftField}
+use Rattle.avro_schema_names.specs.Draft.{Draft, Whole, RecordDraft, DraftField, draft_field}
 use Rattle.avro_schema_names.specs.Fault.{◌>>=◌, require}
-use Rattle.avro_types.specs.FullNames.{full_name, is_name, namespace_of}
-use Rattle.avro_schema_names.specs.Head.{Head, ArrayHead, MapHead, UnionHead, Named, head_of, heads_of, defined_at}
+use Rattle.spec_avro.specs.FullNames.{full_name, is_name, namespace_of}
+use Rattle.avro_schema_names.specs.Head.{Head, ArrayHead, MapHead, UnionHead, Named, head_of, heads_of, defined_at, head_at, are_apart}
 use Rattle.avro_schema_names.specs.Names.{field_name}
 use Rattle.avro_schema_names.specs.Aliases.{field_aliases, new_names}
-use Rattle.avro_types.specs.Node.{Names, ArrayNode, MapNode, UnionNode, EnumNode, FixedNode}
-use Rattle.avro_types.specs.Symbols.{are_new, is_used}
-use Rattle.avro_schema_names.specs.Draft.{draft_field}
-use Rattle.avro_schema_names.specs.Head.{head_at}
-use Rattle.avro_schema_names.specs.Head.{are_apart}
+use Rattle.spec_avro.specs.Node.{Names, ArrayNode, MapNode, UnionNode, EnumNode, FixedNode}
+use Rattle.spec_avro.specs.Symbols.{are_new, is_used}
 use Rattle.avro_schema.specs.Walk.{added as added_to, Walk, apart_union, around, done, enum_of, field, fields, fields_after, field_of, fixed_of, followed_by, found, if_room, members, named, one_node, or_unknown, record_of, reference, union_of, walk}
 use Rattle.avro_schema_names.specs.Word.{form_of}
 use Rattle.avro_schema.proofs.Members.{walk-object, field-object}

@@ -1,6 +1,6 @@
 -- The data of values with parts, one part after another, and by each kind of node.
 use Rattle.std.proofs.Common.{◌≡◌, ℕ, zero, suc, ◌+◌, ◌<◌, ◌≤◌, List, [], ◌∷◌, ◌++◌, length, drop, get_or, map, true, false, Option, Some, None, option_map, option_and_then, Ok, Err, String, string_bytes, slice_get, is_some, refl, sym, ap, ◌∙◌, arith, Bool}
-use Rattle.std.specs.Global.{Global}
+use Rattle.std.specs.Global.{Global, Vec}
 use Rattle.std.specs.Option.{ok_or}
 use Rattle.std.specs.Ordering.{nat_cmp, match_ordering}
 use Rattle.std.specs.Cmp.Lexicographic.{slice_cmp}
@@ -20,11 +20,12 @@ use Rattle.avro_schema_names.specs.declared.error.SchemaError.{SchemaError}
 use Rattle.avro_schema_names.specs.declared.error.SchemaError.TheVariants.{BadDefault}
 use Rattle.avro_types.specs.declared.kind.Kind.{Kind}
 use Rattle.avro_types.specs.declared.kind.Kind.TheVariants as kinds
-use Rattle.std.specs.Global.{Vec}
-use Rattle.avro_types.specs.Datum.{Datum, ArrayDatum, MapDatum, RecordDatum, UnionDatum, Pairs, more, pair, datum_of, data_of, pairs_of}
+use Rattle.spec_avro.specs.Datum.{Datum, ArrayDatum, MapDatum, RecordDatum, UnionDatum, Pairs, more, pair}
+use Rattle.avro_types.specs.Datum.{datum_of, data_of, pairs_of}
 use Rattle.avro_schema.specs.Defaults.{Reading, by_first, at_node, array_value, object_value, leaf_value, default_of, fields_value, items_value, pairs_value, member_value, value_of}
 use Rattle.avro_schema_names.specs.Draft.{Draft, Whole, RecordDraft, DraftField, HasFewSymbols, HaveFewSymbols, draft_field_of, draft_of, drafts_of}
-use Rattle.avro_types.specs.Node.{Node, ArrayNode, MapNode, UnionNode, Names, node_of}
+use Rattle.spec_avro.specs.Node.{Node, ArrayNode, MapNode, UnionNode, Names}
+use Rattle.avro_types.specs.Node.{node_of}
 use Rattle.avro_schema.proofs.DefaultValues.{first_datum, first_pair, before-data, before-pairs}
 use Rattle.avro_schema.proofs.OneByOne.{before, next, one-on, one-fails}
 

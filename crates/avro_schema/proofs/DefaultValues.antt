@@ -6,7 +6,8 @@ use Rattle.std.specs.Global.{Global}
 use Rattle.std.proofs.Math.Seq.{drop-cons}
 use Rattle.std.proofs.Math.ListN.{drop_of_length-le}
 use Rattle.avro_types.specs.declared.datum.Datum as rust
-use Rattle.avro_types.specs.Datum.{Data, Pairs, no_more, more, no_pairs, pair, datum_of, data_of, pairs_of}
+use Rattle.spec_avro.specs.Datum.{Data, Pairs, no_more, more, no_pairs, pair}
+use Rattle.avro_types.specs.Datum.{datum_of, data_of, pairs_of}
 use Rattle.avro_schema.proofs.OneByOne.{before}
 
 -- ---- the bytes of a text

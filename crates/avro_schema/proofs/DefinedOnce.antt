@@ -3,7 +3,7 @@ use Rattle.std.proofs.Common.{◌≡◌, ◌≢◌, ℕ, List, [], ◌∷◌, �
 use Rattle.serde_json.specs.Data.{Data, Items}
 use Rattle.avro_schema_names.specs.Draft.{Draft, Whole, RecordDraft, DraftField}
 use Rattle.avro_schema_names.specs.Head.{Head, Named, head_of, head_of_node, is_named_head}
-use Rattle.avro_types.specs.Node.{Node, ArrayNode, MapNode, UnionNode, EnumNode, FixedNode}
+use Rattle.spec_avro.specs.Node.{Node, ArrayNode, MapNode, UnionNode, EnumNode, FixedNode}
 use Rattle.avro_schema.specs.Declaring.{DeclareFields, DeclareMembers, Declares, IsPrimitive, a_field, a_fixed, a_map, a_member, a_primitive, a_record, a_reference, a_union, an_array, an_enum, another, no_more_fields, no_more_members, null_type, boolean_type, int_type, long_type, bytes_type, text_type}
 use Rattle.avro_schema.specs.Definitions.{AreDefinedOnce, IsNewName}
 

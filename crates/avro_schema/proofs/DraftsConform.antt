@@ -5,13 +5,13 @@ use Rattle.serde_json.specs.Data as json
 use Rattle.avro_schema_names.specs.declared.draft.Draft as rust
 use Rattle.avro_schema_names.specs.declared.draft.Draft.TheVariants as drafts
 use Rattle.avro_schema_names.specs.declared.draft.DraftField as rust_field
-use Rattle.avro_types.specs.Conforming.{Conforms, DefaultsConform}
+use Rattle.spec_avro.specs.Conforming.{Conforms, DefaultsConform}
 use Rattle.avro_schema.specs.Contract.{run}
-use Rattle.avro_types.specs.Datum.{Datum}
+use Rattle.spec_avro.specs.Datum.{Datum}
 use Rattle.avro_schema.specs.Defaults.{all_defaults, default_of, field_default, field_defaults, fields_with, node_defaults, node_with, nodes_with}
 use Rattle.avro_schema_names.specs.Draft.{Draft, Whole, RecordDraft, DraftField, data_at, draft_field_of, draft_of, drafts_of}
 use Rattle.avro_schema_names.specs.Head.{heads_of}
-use Rattle.avro_types.specs.Node.{FieldNode, Names, RecordNode}
+use Rattle.spec_avro.specs.Node.{FieldNode, Names, RecordNode}
 use Rattle.avro_schema_names.specs.Names.{null_namespace}
 use Rattle.avro_schema.specs.Walk.{walk}
 use Rattle.avro_schema.proofs.DefaultsConform.{default-conforms}

@@ -11,10 +11,11 @@ use Rattle.serde_json.specs.Data.{Data, null, boolean, number, string, array, ob
 use Rattle.serde_json.specs.Find.{as_number, as_str, as_u64, get_member}
 use Rattle.serde_json.specs.Read.{read}
 use Rattle.serde_json.specs.Written.{has_float}
-use Rattle.avro_types.specs.declared.limits.TheConstants.{MOST_FIELDS, MOST_FIXED, MOST_NODES, MOST_SYMBOLS, MOST_TEXT}
-use Rattle.avro_types.specs.FullNames.{full_name, has_dot, is_full_name, is_name, namespace_of, unqualified}
-use Rattle.avro_types.specs.Node.{ArrayNode, EnumNode, FixedNode, MapNode, Node, UnionNode, names_of}
-use Rattle.avro_types.specs.Symbols.{are_distinct, is_used, place_of}
+use Rattle.spec_avro.specs.declared.limits.TheConstants.{MOST_FIELDS, MOST_FIXED, MOST_NODES, MOST_SYMBOLS, MOST_TEXT}
+use Rattle.spec_avro.specs.FullNames.{full_name, has_dot, is_full_name, is_name, namespace_of, unqualified}
+use Rattle.spec_avro.specs.Node.{ArrayNode, EnumNode, FixedNode, MapNode, Node, UnionNode}
+use Rattle.avro_types.specs.Node.{names_of}
+use Rattle.spec_avro.specs.Symbols.{are_distinct, is_used, place_of}
 use Rattle.avro_schema_names.specs.declared.error.SchemaError.{SchemaError}
 use Rattle.avro_schema_names.specs.declared.error.SchemaError.TheVariants.{TooLarge, BadNumber, Unknown, OutOfProfile, BadName, Redefined, BadUnion, BadSymbols, BadDefault, NoMemory}
 use Rattle.avro_schema_names.specs.declared.word.Form.{Form}

@@ -9,10 +9,11 @@ use Rattle.avro_schema_names.specs.declared.draft.Draft as rust_draft
 use Rattle.avro_schema_names.specs.declared.draft.DraftField as rust_field
 use Rattle.avro_schema_names.specs.declared.error.SchemaError.{SchemaError}
 use Rattle.avro_schema_names.specs.declared.error.SchemaError.TheVariants.{BadDefault}
-use Rattle.avro_types.specs.Datum.{Datum, datum_of}
+use Rattle.spec_avro.specs.Datum.{Datum}
+use Rattle.avro_types.specs.Datum.{datum_of}
 use Rattle.avro_schema.specs.Defaults.{all_defaults, field_default, field_defaults, field_with, fields_with, node_defaults, node_with, nodes_with}
 use Rattle.avro_schema_names.specs.Draft.{Draft, data_at, draft_field_of, draft_of, drafts_of}
-use Rattle.avro_types.specs.Node.{FieldNode, Node}
+use Rattle.spec_avro.specs.Node.{FieldNode, Node}
 use Rattle.avro_schema.proofs.OneByOne.{before, next, one-on, one-fails}
 
 -- ---- a list of what was read

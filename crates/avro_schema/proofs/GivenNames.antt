@@ -7,10 +7,11 @@ use Rattle.avro_schema_names.specs.declared.error.SchemaError.TheVariants.{BadNa
 use Rattle.avro_schema_names.specs.Draft.{Draft}
 use Rattle.avro_schema_names.specs.Fault.{◌>>=◌, require}
 use Rattle.avro_schema_names.specs.Head.{Head, heads_of, defined_at}
-use Rattle.avro_types.specs.FullNames.{has_dot, inside, is_full_name, unqualified}
+use Rattle.spec_avro.specs.FullNames.{has_dot, inside, is_full_name, unqualified}
 use Rattle.avro_schema_names.specs.Names.{new_name, given_namespace, if_new}
 use Rattle.avro_schema_names.specs.Word.{word_of, is_primitive}
-use Rattle.avro_types.specs.Node.{Names, names_of}
+use Rattle.spec_avro.specs.Node.{Names}
+use Rattle.avro_types.specs.Node.{names_of}
 use Rattle.avro_schema_names.specs.Aliases.{new_names, type_aliases}
 use Rattle.avro_schema.specs.Given.{AreTypeAliases}
 use Rattle.avro_schema.proofs.GivenAttributes.{type_aliases_are, type_aliases_told}

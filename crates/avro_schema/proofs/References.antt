@@ -4,7 +4,7 @@ use Rattle.avro_schema_names.specs.declared.error.SchemaError.TheVariants.{Unkno
 use Rattle.avro_schema.specs.Contract.{run}
 use Rattle.avro_schema_names.specs.Draft.{Draft}
 use Rattle.avro_schema_names.specs.Head.{defined_at, heads_of}
-use Rattle.avro_types.specs.FullNames.{full_name}
+use Rattle.spec_avro.specs.FullNames.{full_name}
 use Rattle.avro_schema.specs.Walk.{added, found, reference}
 
 pub refers : (text enclosing : List ℕ) (ns : List Draft) (n : ℕ) → defined_at (full_name enclosing text) (heads_of ns) ≡ Some n → run (reference text) enclosing ns ≡ Ok (n, ns)

@@ -3,14 +3,14 @@ use Rattle.avro_schema_names.proofs.DraftLists.{length-heads_of, heads_of-append
 use Rattle.std.proofs.Common.{◌≡◌, ℕ, ◌<◌, ◌≤◌, List, [], ◌∷◌, ◌++◌, length, Some, Result, Ok, Err, slice_get, refl, sym, ap, subst, ◌∙◌, append_assoc, append-nil, set}
 use Rattle.std.proofs.lemmas.Bool.{lt-ltb, le-ltb}
 use Rattle.std.proofs.Math.Seq.{set-append_seam}
-use Rattle.avro_types.specs.declared.limits.TheConstants.{MOST_NODES}
+use Rattle.spec_avro.specs.declared.limits.TheConstants.{MOST_NODES}
 use Rattle.avro_schema_names.specs.declared.error.SchemaError.{SchemaError}
 use Rattle.avro_schema_names.specs.declared.error.SchemaError.TheVariants.{TooLarge}
 use Rattle.avro_schema.specs.Contract.{run}
 use Rattle.avro_schema_names.specs.Fault.{◌>>=◌}
 use Rattle.avro_schema_names.specs.Draft.{Draft, Whole}
 use Rattle.avro_schema_names.specs.Head.{head_of, heads_of}
-use Rattle.avro_types.specs.Node.{Node}
+use Rattle.spec_avro.specs.Node.{Node}
 use Rattle.avro_schema.specs.Walk.{Walk, added, one_node, done, followed_by, fault, leaf, if_room, around}
 
 pub run-fault : {A : Type 0} (e : SchemaError) (enclosing : List ℕ) (ns : List Draft) → run (fault {A = A} e) enclosing ns ≡ Err e

@@ -4,9 +4,9 @@ use Rattle.std.proofs.lemmas.Bool.{le-leb, leb-true}
 use Rattle.serde_json.specs.Data as json
 use Rattle.serde_json.specs.Read.{read}
 use Rattle.serde_json.specs.Written.{has_float}
-use Rattle.avro_types.specs.declared.limits.TheConstants.{MOST_TEXT}
-use Rattle.avro_types.specs.Datum.{Datum}
-use Rattle.avro_types.specs.Node.{Node, FieldNode, EnumNode}
+use Rattle.spec_avro.specs.declared.limits.TheConstants.{MOST_TEXT}
+use Rattle.spec_avro.specs.Datum.{Datum}
+use Rattle.spec_avro.specs.Node.{Node, FieldNode, EnumNode}
 use Rattle.avro_schema_names.specs.declared.error.SchemaError.{SchemaError}
 use Rattle.avro_schema_names.specs.declared.error.SchemaError.TheVariants.{BadNumber, TooLarge}
 use Rattle.avro_schema.specs.Declaring.{Declares}

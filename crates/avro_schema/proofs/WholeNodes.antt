@@ -9,15 +9,15 @@ use Rattle.serde_json.specs.Written.{has_float}
 use Rattle.avro_schema_names.specs.declared.error.SchemaError.{SchemaError}
 use Rattle.avro_schema_names.specs.declared.error.SchemaError.TheVariants.{BadNumber, BadDefault}
 use Rattle.avro_schema.specs.Contract.{run}
-use Rattle.avro_types.specs.Datum.{Datum}
+use Rattle.spec_avro.specs.Datum.{Datum}
 use Rattle.avro_schema.specs.Defaults.{all_defaults, field_defaults, fields_with, finished, node_defaults, node_with, nodes_with, field_default}
 use Rattle.avro_schema_names.specs.Draft.{Draft, Whole, RecordDraft, DraftField, HasFewSymbols, HaveFewSymbols}
 use Rattle.avro_schema_names.specs.Fault.{◌>>=◌}
 use Rattle.avro_schema_names.specs.Head.{Head, Named, head_at, head_of, head_of_node, heads_of, is_same_type}
-use Rattle.avro_types.specs.Node.{Node, NullNode, BooleanNode, IntNode, LongNode, BytesNode, TextNode, FixedNode, EnumNode, ArrayNode, MapNode, UnionNode, RecordNode}
-use Rattle.avro_types.specs.WellFormed.{AreApart, FieldsBelow, HoldsItem, IsMember, IsPartOf, IsWellFormed, NodeIsWellFormed, are_of_one_type, full_name_of, is_named, is_union}
+use Rattle.spec_avro.specs.Node.{Node, NullNode, BooleanNode, IntNode, LongNode, BytesNode, TextNode, FixedNode, EnumNode, ArrayNode, MapNode, UnionNode, RecordNode}
+use Rattle.spec_avro.specs.WellFormed.{AreApart, FieldsBelow, HoldsItem, IsMember, IsPartOf, IsWellFormed, NodeIsWellFormed, are_of_one_type, full_name_of, is_named, is_union}
 use Rattle.avro_types.specs.Laws.Booleans.{false_by, no_true, none_some, some_inside}
-use Rattle.avro_types.specs.declared.limits.TheConstants.{MOST_NODES}
+use Rattle.spec_avro.specs.declared.limits.TheConstants.{MOST_NODES}
 use Rattle.std.proofs.lemmas.Slice.Eq.{bytes_eq-Decides}
 use Rattle.avro_schema.specs.Definitions.{AreDefinedOnce, IsDefinedAt}
 use Rattle.avro_schema.specs.Schema.{declared, nodes_in_read}

@@ -5,13 +5,11 @@ use Rattle.std.specs.List.{AllByRecursion, IsDistinct}
 use Rattle.std.specs.Str.{bytes_eq}
 use Rattle.serde_json.specs.Data.{Data, string, array, object, Items, no_items, item, Members}
 use Rattle.serde_json.specs.Find.{get_member}
-use Rattle.avro_types.specs.declared.limits.TheConstants.{MOST_FIELDS, MOST_NODES}
-use Rattle.avro_schema_names.specs.Draft.{Draft, Whole, RecordDraft, DraftField}
-use Rattle.avro_types.specs.FullNames.{is_name, has_dot, is_full_name, full_name, inside, namespace_of, unqualified}
-use Rattle.avro_schema_names.specs.Head.{Head, heads_of, is_same_type, is_union_head}
-use Rattle.avro_types.specs.Node.{Node, Names, NullNode, BooleanNode, IntNode, LongNode, BytesNode, TextNode, FixedNode, EnumNode, ArrayNode, MapNode, UnionNode}
-use Rattle.avro_schema_names.specs.Draft.{draft_field}
-use Rattle.avro_schema_names.specs.Head.{head_at}
+use Rattle.spec_avro.specs.declared.limits.TheConstants.{MOST_FIELDS, MOST_NODES}
+use Rattle.avro_schema_names.specs.Draft.{Draft, Whole, RecordDraft, DraftField, draft_field}
+use Rattle.spec_avro.specs.FullNames.{is_name, has_dot, is_full_name, full_name, inside, namespace_of, unqualified}
+use Rattle.avro_schema_names.specs.Head.{Head, heads_of, is_same_type, is_union_head, head_at}
+use Rattle.spec_avro.specs.Node.{Node, Names, NullNode, BooleanNode, IntNode, LongNode, BytesNode, TextNode, FixedNode, EnumNode, ArrayNode, MapNode, UnionNode}
 use Rattle.avro_schema.specs.Given.{AreFieldAliases, AreTypeAliases, IsDefaultSymbol, IsSize, IsSymbols}
 use Rattle.avro_schema.specs.Definitions.{IsDefinedAt, IsNewName}
 

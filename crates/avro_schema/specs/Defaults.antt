@@ -9,11 +9,11 @@ use Rattle.serde_json.specs.Data.{Num, Data, null, boolean, number, string, arra
 use Rattle.serde_json.specs.Find.{as_i64}
 use Rattle.avro_schema_names.specs.declared.error.SchemaError.{SchemaError}
 use Rattle.avro_schema_names.specs.declared.error.SchemaError.TheVariants.{BadDefault}
-use Rattle.avro_types.specs.Datum as datum
-use Rattle.avro_types.specs.Datum.{Datum, NullDatum, BooleanDatum, IntDatum, LongDatum, BytesDatum, TextDatum, FixedDatum, EnumDatum, ArrayDatum, MapDatum, UnionDatum, RecordDatum, no_more, more, Pairs, no_pairs, pair}
+use Rattle.spec_avro.specs.Datum as datum
+use Rattle.spec_avro.specs.Datum.{Datum, NullDatum, BooleanDatum, IntDatum, LongDatum, BytesDatum, TextDatum, FixedDatum, EnumDatum, ArrayDatum, MapDatum, UnionDatum, RecordDatum, no_more, more, Pairs, no_pairs, pair}
 use Rattle.avro_schema_names.specs.Draft.{Draft, Whole, RecordDraft, DraftField}
-use Rattle.avro_types.specs.Node.{Node, FieldNode, NullNode, BooleanNode, IntNode, LongNode, BytesNode, TextNode, FixedNode, EnumNode, ArrayNode, MapNode, UnionNode, RecordNode}
-use Rattle.avro_types.specs.Symbols.{place_of}
+use Rattle.spec_avro.specs.Node.{Node, FieldNode, NullNode, BooleanNode, IntNode, LongNode, BytesNode, TextNode, FixedNode, EnumNode, ArrayNode, MapNode, UnionNode, RecordNode}
+use Rattle.spec_avro.specs.Symbols.{place_of}
 
 -- the datum that a value is by a node that is no union
 abbrev pub Reading : Type 0

@@ -1,10 +1,10 @@
 -- What attributes give, as relations (Avro 1.11, "Aliases", "Enums" and "Fixed").
-use Rattle.avro_types.specs.declared.limits.TheConstants.{MOST_FIXED, MOST_SYMBOLS}
+use Rattle.spec_avro.specs.declared.limits.TheConstants.{MOST_FIXED, MOST_SYMBOLS}
 use Rattle.std.specs.Prelude.{◌≡◌, ℕ, ◌≤◌, List, [], ◌∷◌, length, map, true, Option, Some, None, slice_get}
 use Rattle.std.specs.List.{AllByRecursion, IsDistinct}
 use Rattle.std.specs.Str.{bytes_eq}
 use Rattle.serde_json.specs.Data.{Data, unsigned, number, string, array, Items, no_items, item}
-use Rattle.avro_types.specs.FullNames.{full_name, is_full_name, is_name, namespace_of}
+use Rattle.spec_avro.specs.FullNames.{full_name, is_full_name, is_name, namespace_of}
 
 -- a list of texts
 abbrev pub texts : List (List ℕ) → Items

@@ -1,6 +1,6 @@
 -- Arrays and maps (Avro 1.11, "Arrays" and "Maps").
 use Rattle.std.specs.Prelude.{ℕ}
-use Rattle.avro_types.specs.Node.{Node, ArrayNode, MapNode}
+use Rattle.spec_avro.specs.Node.{Node, ArrayNode, MapNode}
 use Rattle.avro_schema.specs.declared.holder.Holder.{Holder}
 use Rattle.avro_schema.specs.declared.holder.Holder.TheVariants as holders
 

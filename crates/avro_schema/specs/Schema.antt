@@ -3,12 +3,12 @@ use Rattle.std.specs.Prelude.{◌≡◌, ◌≢◌, ℕ, List, [], length, nat_l
 use Rattle.serde_json.specs.Data.{Data}
 use Rattle.serde_json.specs.Read.{read}
 use Rattle.serde_json.specs.Written.{has_float, compact_text}
-use Rattle.avro_types.specs.declared.limits.TheConstants.{MOST_TEXT}
+use Rattle.spec_avro.specs.declared.limits.TheConstants.{MOST_TEXT}
 use Rattle.avro_schema_names.specs.declared.error.SchemaError.{SchemaError}
 use Rattle.avro_schema_names.specs.declared.error.SchemaError.TheVariants.{TooLarge, NotJson, BadNumber, NoMemory}
 use Rattle.avro_schema.specs.Defaults.{finished}
 use Rattle.avro_schema_names.specs.Fault.{◌>>=◌}
-use Rattle.avro_types.specs.Node.{Node}
+use Rattle.spec_avro.specs.Node.{Node}
 use Rattle.avro_schema_names.specs.Names.{null_namespace}
 use Rattle.avro_schema.specs.Walk.{walk}
 

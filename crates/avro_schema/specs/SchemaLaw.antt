@@ -3,8 +3,8 @@ use Rattle.std.specs.Prelude.{◌≡◌, ◌≤◌, ◌↔◌, ℕ, List, [], le
 use Rattle.serde_json.specs.Data.{Data}
 use Rattle.serde_json.specs.Read.{read}
 use Rattle.serde_json.specs.Written.{has_float}
-use Rattle.avro_types.specs.declared.limits.TheConstants.{MOST_TEXT}
-use Rattle.avro_types.specs.Node.{Node}
+use Rattle.spec_avro.specs.declared.limits.TheConstants.{MOST_TEXT}
+use Rattle.spec_avro.specs.Node.{Node}
 use Rattle.avro_schema_names.specs.declared.error.SchemaError.{SchemaError}
 use Rattle.avro_schema.specs.Declaring.{Declares}
 use Rattle.avro_schema.specs.DefaultData.{AreNodesOf}

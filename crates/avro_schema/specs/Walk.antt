@@ -1,11 +1,11 @@
 -- The walk over a schema's JSON: what each value declares, or the first fault (Avro 1.11, "Schema Declaration").
-use Rattle.avro_schema_names.specs.Head.{are_apart}
+use Rattle.avro_schema_names.specs.Head.{are_apart, Head, ArrayHead, MapHead, UnionHead, Named, heads_of, defined_at, head_at}
 use Rattle.std.specs.Prelude.{ℕ, List, [], ◌∷◌, ◌++◌, length, map, if◌then◌else◌, Option, Some, None, Result, Ok, Err, nat_lt, codes}
 use Rattle.std.specs.Ordering.{nat_cmp, match_ordering}
 use Rattle.std.specs.Cmp.Lexicographic.{slice_cmp}
 use Rattle.serde_json.specs.Data.{Data, string, array, object, Items, no_items, item, Members, no_members, member}
 use Rattle.serde_json.specs.Find.{get_member}
-use Rattle.avro_types.specs.declared.limits.TheConstants.{MOST_FIELDS, MOST_NODES}
+use Rattle.spec_avro.specs.declared.limits.TheConstants.{MOST_FIELDS, MOST_NODES}
 use Rattle.avro_schema_names.specs.declared.error.SchemaError.{SchemaError}
 use Rattle.avro_schema_names.specs.declared.error.SchemaError.TheVariants.{TooLarge, Unknown, OutOfProfile, BadUnion}
 use Rattle.avro_schema_names.specs.declared.word.Form.{Form}
@@ -14,10 +14,9 @@ use Rattle.avro_schema_names.specs.Aliases.{field_aliases, new_names}
 use Rattle.avro_schema_names.specs.Attributes.{symbols_of, default_symbol, size_of}
 use Rattle.avro_schema_names.specs.Draft.{Draft, Whole, RecordDraft, DraftField, draft_field}
 use Rattle.avro_schema_names.specs.Fault.{◌>>=◌}
-use Rattle.avro_schema_names.specs.Head.{Head, ArrayHead, MapHead, UnionHead, Named, heads_of, defined_at, head_at}
-use Rattle.avro_types.specs.FullNames.{full_name, namespace_of}
+use Rattle.spec_avro.specs.FullNames.{full_name, namespace_of}
 use Rattle.avro_schema_names.specs.Names.{field_name}
-use Rattle.avro_types.specs.Node.{Node, FixedNode, EnumNode, ArrayNode, MapNode, UnionNode}
+use Rattle.spec_avro.specs.Node.{Node, FixedNode, EnumNode, ArrayNode, MapNode, UnionNode}
 use Rattle.avro_schema_names.specs.Word.{word_of, leaf_of, is_left_out, form_of}
 
 -- Given the enclosing namespace and the heads of the nodes so far: a value, and the nodes that it adds.

@@ -8,7 +8,8 @@ ghost use Rattle.avro_types.specs.Datum.{data_of, datum_of, pairs_of};
 ghost use Rattle.avro_schema.specs.Defaults.{bytes_in, by_first, default_of, fields_value, items_value, leaf_value, number_value, pairs_value, text_value, value_of};
 ghost use Rattle.avro_schema_names.specs.Draft.{HasFewSymbols, HaveFewSymbols, Whole, draft_field_of, draft_of, drafts_of};
 ghost use Rattle.avro_schema_names.specs.Fault.{Tells};
-ghost use Rattle.avro_types.specs.Node.{UnionNode, node_of};
+ghost use Rattle.spec_avro.specs.Node.{UnionNode};
+ghost use Rattle.avro_types.specs.Node.{node_of};
 
 use avro_schema_names::{Draft, DraftField, SchemaError, default_member};
 use avro_types::{Datum, Kind};

@@ -3,9 +3,9 @@ use Rattle.std.proofs.Common.{◌≡◌, ◌<◌, ℕ, List, [], ◌∷◌, ◌+
 use Rattle.std.proofs.lemmas.Bool.{lt-ltb}
 use Rattle.serde_json.specs.Data.{Data, array, object, Items}
 use Rattle.serde_json.specs.Find.{as_object, get}
-use Rattle.avro_types.specs.FullNames.{namespace_of}
-use Rattle.avro_types.specs.Node.{ArrayNode, MapNode, Names}
-use Rattle.avro_types.specs.declared.limits.TheConstants.{MOST_FIELDS, MOST_NODES}
+use Rattle.spec_avro.specs.FullNames.{namespace_of}
+use Rattle.spec_avro.specs.Node.{ArrayNode, MapNode, Names}
+use Rattle.spec_avro.specs.declared.limits.TheConstants.{MOST_FIELDS, MOST_NODES}
 use Rattle.avro_schema_names.specs.Draft.{Draft, DraftField, Whole}
 use Rattle.avro_schema_names.specs.Head.{ArrayHead, Head, MapHead, Named, UnionHead, heads_of}
 use Rattle.avro_schema_names.specs.Aliases.{field_aliases, new_names}

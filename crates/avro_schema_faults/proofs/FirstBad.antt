@@ -1,8 +1,8 @@
 -- The first default that is no value of its field's type.
 use Rattle.std.proofs.Common.{◌≡◌, ◌<◌, ◌≤◌, ◌+◌, ◌⊎◌, inl, inr, ℕ, zero, suc, List, [], ◌∷◌, Bool, true, false, cond, not, is_some, Option, Some, None, arith, refl, sym, ap, ◌∙◌, slice_get}
 use Rattle.std.specs.List.{position_from}
-use Rattle.avro_types.specs.Datum.{Datum}
-use Rattle.avro_types.specs.Node.{Names}
+use Rattle.spec_avro.specs.Datum.{Datum}
+use Rattle.spec_avro.specs.Node.{Names}
 use Rattle.avro_schema.specs.Defaults.{all_defaults, field_default, field_defaults, node_defaults}
 use Rattle.avro_schema_names.specs.Draft.{Draft, DraftField, RecordDraft, Whole}
 use Rattle.avro_schema_faults.specs.declared.bad_defaults.FieldPlace.{FieldPlace}

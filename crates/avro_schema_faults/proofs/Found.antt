@@ -4,9 +4,9 @@ use Rattle.std.specs.Option.{ok_or}
 use Rattle.serde_json.specs.Data.{Data}
 use Rattle.serde_json.specs.Read.{read}
 use Rattle.serde_json.specs.Written.{has_float}
-use Rattle.avro_types.specs.Datum.{Datum}
-use Rattle.avro_types.specs.Node.{Node}
-use Rattle.avro_types.specs.declared.limits.TheConstants.{MOST_TEXT}
+use Rattle.spec_avro.specs.Datum.{Datum}
+use Rattle.spec_avro.specs.Node.{Node}
+use Rattle.spec_avro.specs.declared.limits.TheConstants.{MOST_TEXT}
 use Rattle.avro_schema.specs.Schema.{declared, nodes_in_read}
 use Rattle.avro_schema.proofs.Declared.{declared-is, finished-err, finished-ok, small, too-large}
 use Rattle.avro_schema.specs.Defaults.{nodes_with}

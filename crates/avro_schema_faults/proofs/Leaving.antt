@@ -6,9 +6,10 @@ use Rattle.serde_json.specs.View.{view, number_view}
 use Rattle.serde_json.specs.declared.number.Number.{Number}
 use Rattle.serde_json.specs.declared.value.Value as json
 use Rattle.serde_json.specs.declared.value.Value.{the_lemmas}
-use Rattle.avro_types.specs.FullNames.{namespace_of}
-use Rattle.avro_types.specs.Node.{ArrayNode, MapNode, Names, UnionNode, names_of}
-use Rattle.avro_types.specs.declared.limits.TheConstants.{MOST_NODES}
+use Rattle.spec_avro.specs.FullNames.{namespace_of}
+use Rattle.spec_avro.specs.Node.{ArrayNode, MapNode, Names, UnionNode}
+use Rattle.avro_types.specs.Node.{names_of}
+use Rattle.spec_avro.specs.declared.limits.TheConstants.{MOST_NODES}
 use Rattle.avro_schema_names.specs.Draft.{Draft, DraftField, RecordDraft, Whole, field_names}
 use Rattle.avro_schema_names.specs.Head.{ArrayHead, Head, MapHead, Named, UnionHead, heads_of}
 use Rattle.avro_schema_names.proofs.Depths.{found-depth}

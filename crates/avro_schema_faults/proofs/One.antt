@@ -2,8 +2,8 @@
 use Rattle.std.proofs.Common.{◌≡◌, ℕ, suc, List, [], ◌∷◌, ◌++◌, Option, Some, Result, Ok, Err, refl, sym, ap, subst, ◌∙◌, codes}
 use Rattle.serde_json.specs.Data.{Data, Items}
 use Rattle.serde_json.specs.Find.{get}
-use Rattle.avro_types.specs.FullNames.{namespace_of}
-use Rattle.avro_types.specs.Node.{Names}
+use Rattle.spec_avro.specs.FullNames.{namespace_of}
+use Rattle.spec_avro.specs.Node.{Names}
 use Rattle.avro_schema_names.specs.Draft.{Draft, DraftField}
 use Rattle.avro_schema_names.specs.Head.{ArrayHead, Head, MapHead, Named, UnionHead, heads_of}
 use Rattle.avro_schema_names.specs.declared.error.SchemaError.{SchemaError}

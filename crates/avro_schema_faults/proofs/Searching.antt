@@ -3,9 +3,9 @@ use Rattle.std.proofs.Common.{◌≡◌, ◌<◌, ◌≤◌, ◌+◌, ◌-◌, �
 use Rattle.std.specs.Option.{SomeIff}
 use Rattle.std.proofs.lemmas.Bool.{ltb-true}
 use Rattle.serde_json.specs.Data.{Data, array, string, Items}
-use Rattle.avro_types.specs.FullNames.{full_name}
-use Rattle.avro_types.specs.Node.{Node, UnionNode}
-use Rattle.avro_types.specs.declared.limits.TheConstants.{MOST_NODES}
+use Rattle.spec_avro.specs.FullNames.{full_name}
+use Rattle.spec_avro.specs.Node.{Node, UnionNode}
+use Rattle.spec_avro.specs.declared.limits.TheConstants.{MOST_NODES}
 use Rattle.avro_schema_names.specs.Draft.{Draft, Whole}
 use Rattle.avro_schema_names.specs.Head.{Head, UnionHead, are_apart, defined_at, head_at, heads_of}
 use Rattle.avro_schema_names.specs.Fault.{◌>>=◌}

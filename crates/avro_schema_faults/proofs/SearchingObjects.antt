@@ -3,9 +3,9 @@ use Rattle.std.proofs.Common.{◌≡◌, ◌<◌, ◌+◌, ℕ, suc, List, [], �
 use Rattle.std.proofs.lemmas.Bool.{ltb-true}
 use Rattle.serde_json.specs.Data.{Data, array, Items}
 use Rattle.serde_json.specs.Find.{as_array, as_object, get}
-use Rattle.avro_types.specs.FullNames.{namespace_of}
-use Rattle.avro_types.specs.Node.{ArrayNode, EnumNode, FixedNode, MapNode, Names, Node}
-use Rattle.avro_types.specs.declared.limits.TheConstants.{MOST_FIELDS, MOST_NODES}
+use Rattle.spec_avro.specs.FullNames.{namespace_of}
+use Rattle.spec_avro.specs.Node.{ArrayNode, EnumNode, FixedNode, MapNode, Names, Node}
+use Rattle.spec_avro.specs.declared.limits.TheConstants.{MOST_FIELDS, MOST_NODES}
 use Rattle.avro_schema_names.specs.Draft.{Draft, DraftField, RecordDraft, Whole}
 use Rattle.avro_schema_names.specs.Head.{ArrayHead, Head, MapHead, Named}
 use Rattle.avro_schema_names.specs.Aliases.{field_aliases, new_names}

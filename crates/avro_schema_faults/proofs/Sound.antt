@@ -2,8 +2,8 @@
 use Rattle.std.proofs.Common.{◌≡◌, ◌<◌, ◌≤◌, ℕ, true, false, is_some, List, [], ◌∷◌, ◌++◌, length, Some, None, Ok, Err, arith, refl, sym, ap, ◌∙◌, codes}
 use Rattle.serde_json.specs.Data.{Data, array, object, string, Items}
 use Rattle.serde_json.specs.Find.{as_array, as_object, get}
-use Rattle.avro_types.specs.Node.{Names}
-use Rattle.avro_types.specs.declared.limits.TheConstants.{MOST_FIELDS, MOST_NODES}
+use Rattle.spec_avro.specs.Node.{Names}
+use Rattle.spec_avro.specs.declared.limits.TheConstants.{MOST_FIELDS, MOST_NODES}
 use Rattle.avro_schema_names.specs.Draft.{Draft}
 use Rattle.avro_schema_names.specs.Head.{Head, UnionHead, heads_of}
 use Rattle.avro_schema_names.specs.Aliases.{field_aliases, new_names}

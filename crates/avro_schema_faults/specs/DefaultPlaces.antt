@@ -2,7 +2,7 @@
 use Rattle.std.specs.Prelude.{◌≡◌, ◌<◌, ◌≤◌, ◌+◌, ◌⊎◌, ℕ, List, [], ◌∷◌, length, Option, Some, None, not, is_some, Bool, slice_get}
 use Rattle.std.specs.List.{position_from}
 use Rattle.serde_json.specs.Data.{Data}
-use Rattle.avro_types.specs.Node.{Names}
+use Rattle.spec_avro.specs.Node.{Names}
 use Rattle.avro_schema.specs.Defaults.{field_default}
 use Rattle.avro_schema_names.specs.Draft.{Draft, DraftField, RecordDraft, Whole}
 use Rattle.avro_schema_names.specs.Head.{Head}

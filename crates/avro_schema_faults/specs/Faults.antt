@@ -3,9 +3,9 @@
 use Rattle.std.specs.Prelude.{◌≡◌, ◌<◌, ℕ, suc, true, is_some, List, [], ◌∷◌, ◌++◌, length, Some, Ok, Err, codes}
 use Rattle.serde_json.specs.Data.{Data, array, Items, item}
 use Rattle.serde_json.specs.Find.{as_object, get}
-use Rattle.avro_types.specs.FullNames.{namespace_of}
-use Rattle.avro_types.specs.Node.{Names}
-use Rattle.avro_types.specs.declared.limits.TheConstants.{MOST_FIELDS, MOST_NODES}
+use Rattle.spec_avro.specs.FullNames.{namespace_of}
+use Rattle.spec_avro.specs.Node.{Names}
+use Rattle.spec_avro.specs.declared.limits.TheConstants.{MOST_FIELDS, MOST_NODES}
 use Rattle.avro_schema_names.specs.Draft.{Draft, DraftField}
 use Rattle.avro_schema_names.specs.Head.{Head, ArrayHead, MapHead, Named, UnionHead, heads_of}
 use Rattle.avro_schema_names.specs.Aliases.{field_aliases, new_names}

@@ -3,8 +3,8 @@ use Rattle.std.specs.Prelude.{◌≡◌, ◌≢◌, ◌<◌, ◌≤◌, ⊤, ℕ
 use Rattle.serde_json.specs.Data.{Data}
 use Rattle.serde_json.specs.Read.{read}
 use Rattle.serde_json.specs.Written.{has_float}
-use Rattle.avro_types.specs.Node.{Node}
-use Rattle.avro_types.specs.declared.limits.TheConstants.{MOST_TEXT}
+use Rattle.spec_avro.specs.Node.{Node}
+use Rattle.spec_avro.specs.declared.limits.TheConstants.{MOST_TEXT}
 use Rattle.avro_schema.specs.Schema.{declared, nodes_in, schema_of}
 use Rattle.avro_schema_names.specs.Draft.{Draft}
 use Rattle.avro_schema_names.specs.Names.{null_namespace}

@@ -2,7 +2,7 @@
 use Rattle.std.proofs.Common.{◌≡◌, ◌+◌, ◌<◌, ℕ, List, [], ◌∷◌, length, Bool, true, false, cond, not, ◌&&◌, refl, ap, ◌∙◌, arith, suc}
 use Rattle.std.specs.List.{list_all, slice_split, onto_first, position_or_len, before_first, after_first}
 use Rattle.std.proofs.lemmas.List.Splits.{slice_split_first}
-use Rattle.avro_types.specs.FullNames.{is_dot, is_name, is_full_name}
+use Rattle.spec_avro.specs.FullNames.{is_dot, is_name, is_full_name}
 use Rattle.avro_types.specs.Laws.Booleans.{and_true}
 
 one_at : (b : Bool) (x : ℕ) (xs : List ℕ) (r : List (List ℕ)) (n len : ℕ) → cond (not b) (1 + n) 0 ≡ suc len → (n ≡ len → r ≡ xs ∷ []) → cond b ([] ∷ r) (onto_first x r) ≡ (x ∷ xs) ∷ []

@@ -12,7 +12,7 @@ use Rattle.std.proofs.lemmas.Option.{slice_get_within, slice_get-get_or}
 use Rattle.std.proofs.lemmas.Slice.Eq.{bytes_eq-Decides}
 use Rattle.avro_types.specs.Laws.Placed.{or_last, position-behind, used-push}
 use Rattle.avro_schema_names.specs.Draft.{Draft, DraftField, field_names}
-use Rattle.avro_types.specs.FullNames.{has_dot, inside, namespace_of, unqualified}
+use Rattle.spec_avro.specs.FullNames.{has_dot, inside, namespace_of, unqualified}
 use Rattle.avro_schema_names.specs.Head.{Head, defined_at, defines, head_of, heads_of}
 use Rattle.avro_schema_names.specs.Index.{AreNamesOf, IsIndexOf, namespaces_of}
 use Rattle.avro_types.specs.Laws.Booleans.{false_by, same_by}

@@ -10,14 +10,14 @@ use Rattle.std.proofs.lemmas.Map.Text.{btree_map_updates_text}
 use Rattle.std.proofs.lemmas.Slice.Eq.{bytes_eq-Decides}
 use Rattle.avro_types.specs.Laws.Placed.{last_not, or_last}
 use Rattle.avro_schema_names.specs.Draft.{Draft}
-use Rattle.avro_types.specs.FullNames.{inside}
+use Rattle.spec_avro.specs.FullNames.{inside}
 use Rattle.avro_schema_names.specs.Head.{Head, IsUnnamed, NullHead, BooleanHead, IntHead, LongHead, BytesHead, TextHead, ArrayHead, MapHead, UnionHead, Named, defined_at, defines, head_of, heads_of}
 use Rattle.avro_schema_names.specs.Index.{IsIndexOf, namespaces_of, with_namespace}
 use Rattle.avro_types.specs.Laws.Booleans.{no_true}
 use Rattle.avro_schema_names.proofs.DraftLists.{get-front}
 use Rattle.avro_schema_names.proofs.Index.{defined-behind, heads-behind}
 use Rattle.avro_schema_names.proofs.Namespaces.{at-last, namespaces-one}
-use Rattle.avro_types.specs.Symbols.{place_of}
+use Rattle.spec_avro.specs.Symbols.{place_of}
 
 -- ---- a name is defined once
 

@@ -5,9 +5,7 @@ use Rattle.std.proofs.Math.Seq.{drop-cons}
 use Rattle.std.proofs.Math.ListN.{drop_of_length-le}
 use Rattle.avro_schema_names.specs.declared.draft.Draft as rust
 use Rattle.avro_schema_names.specs.Draft.{draft_of, drafts_of}
-use Rattle.avro_schema_names.specs.Head.{Head, head_of, heads_of, is_same_type, is_union_head}
-use Rattle.avro_schema_names.specs.Head.{head_at}
-use Rattle.avro_schema_names.specs.Head.{are_apart}
+use Rattle.avro_schema_names.specs.Head.{Head, head_of, heads_of, is_same_type, is_union_head, head_at, are_apart}
 
 at_place : (ds : List rust.Draft) (n : ℕ) (d : rust.Draft) → n < length ds → head_at (heads_of (drafts_of ds)) n ≡ head_of (draft_of (get_or ds n d))
 at_place [] n d lt = absurd (omega arith)

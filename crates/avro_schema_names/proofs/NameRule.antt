@@ -1,7 +1,7 @@
 -- The rule for names, by a text's first byte and the rest; a name among those of fields.
 use Rattle.std.proofs.Common.{◌≡◌, ℕ, ◌<◌, ◌≤◌, List, [], ◌∷◌, length, get_or, drop, true, false, ◌&&◌, refl, sym, arith, Option, Some, None, option_map, is_some, is_none}
 use Rattle.std.specs.List.{list_all}
-use Rattle.avro_types.specs.FullNames.{is_letter, is_letter_or_digit, is_name}
+use Rattle.spec_avro.specs.FullNames.{is_letter, is_letter_or_digit, is_name}
 
 pub name-empty : (s : List ℕ) → length s < 1 → false ≡ is_name s
 unfolding is_name

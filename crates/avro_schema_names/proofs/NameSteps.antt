@@ -4,7 +4,7 @@ use Rattle.std.proofs.lemmas.Bool.{eqb-true}
 use Rattle.serde_json.specs.Data.{Data}
 use Rattle.avro_schema_names.specs.declared.error.SchemaError.{SchemaError}
 use Rattle.avro_schema_names.specs.declared.error.SchemaError.TheVariants.{BadName, Redefined}
-use Rattle.avro_types.specs.FullNames.{has_dot, full_name, inside, is_full_name, is_name, is_namespace, unqualified}
+use Rattle.spec_avro.specs.FullNames.{has_dot, full_name, inside, is_full_name, is_name, is_namespace, unqualified}
 use Rattle.avro_schema_names.specs.Head.{Head, defined_at}
 use Rattle.avro_schema_names.specs.Names.{if_new, new_name, text_of}
 use Rattle.avro_schema_names.specs.Word.{is_primitive, word_of}

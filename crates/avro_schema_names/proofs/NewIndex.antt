@@ -11,16 +11,15 @@ use Rattle.std.proofs.lemmas.Map.Text.{btree_map_updates_text}
 use Rattle.std.proofs.lemmas.Slice.Eq.{bytes_eq-Decides}
 use Rattle.avro_types.specs.Laws.Placed.{last_not, named-last, none-used, place-behind, or_last, used-at}
 use Rattle.avro_schema_names.specs.Draft.{Draft}
-use Rattle.avro_types.specs.FullNames.{has_dot, inside, is_full_name, is_name, namespace_of}
+use Rattle.spec_avro.specs.FullNames.{has_dot, inside, is_full_name, is_name, namespace_of}
 use Rattle.avro_schema_names.specs.Head.{Head, Named, defined_at, head_of, heads_of}
 use Rattle.avro_schema_names.specs.Index.{IsIndexOf, namespaces_of, with_namespace}
-use Rattle.avro_types.specs.Symbols.{is_used, place_of}
+use Rattle.spec_avro.specs.Symbols.{is_used, place_of}
 use Rattle.avro_types.specs.Laws.Booleans.{false_by, no_true, none_some, same_number, some_inside}
 use Rattle.avro_types.specs.Laws.Dots.{namespace-inside}
-use Rattle.avro_schema_names.proofs.DraftLists.{get-front}
+use Rattle.avro_schema_names.proofs.DraftLists.{get-front, length-heads_of}
 use Rattle.avro_schema_names.proofs.Index.{defined-behind, heads-behind, inside-apart, inside-same}
 use Rattle.avro_schema_names.proofs.IndexSteps.{once-behind}
-use Rattle.avro_schema_names.proofs.DraftLists.{length-heads_of}
 use Rattle.avro_schema_names.proofs.Namespaces.{at-last, spaceless, namespaces-numbered, namespaces-one}
 
 begins-unruled : (last : List ℕ) → is_full_name (46 ∷ last) ≡ false

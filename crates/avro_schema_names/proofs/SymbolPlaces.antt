@@ -4,7 +4,7 @@ use Rattle.std.specs.List.{AllByRecursion, IsDistinct, position_from}
 use Rattle.std.specs.Str.{bytes_eq}
 use Rattle.std.proofs.lemmas.Slice.Eq.{bytes_eq-Decides}
 use Rattle.avro_types.specs.Laws.Booleans.{none_some, some_inside}
-use Rattle.avro_types.specs.Symbols.{place_of}
+use Rattle.spec_avro.specs.Symbols.{place_of}
 
 all_at : (P : List ℕ → Type 0) (ss : List (List ℕ)) (n : ℕ) (s : List ℕ) → AllByRecursion P ss → slice_get ss n ≡ Some s → P s
 all_at P [] n s h e = absurd (none_some s e)

@@ -7,7 +7,7 @@ use Rattle.serde_json.specs.declared.value.Value.{Value}
 use Rattle.avro_schema_names.specs.declared.error.SchemaError.{SchemaError}
 use Rattle.avro_schema_names.specs.Attributes.{texts_in}
 use Rattle.avro_schema_names.specs.Fault.{◌>>=◌}
-use Rattle.avro_types.specs.FullNames.{is_name}
+use Rattle.spec_avro.specs.FullNames.{is_name}
 use Rattle.avro_schema_names.specs.Names.{text_of}
 
 abbrev pub names : List (String Global) → List (List ℕ)

@@ -1,8 +1,8 @@
 -- Aliases of a type, each by the rule for full names.
 use Rattle.std.proofs.Common.{◌≡◌, ℕ, List, [], ◌∷◌, Bool, true, false, refl, ◌∙◌, string_bytes, String, Global}
 use Rattle.std.specs.List.{list_all}
-use Rattle.avro_types.specs.Aliases.{full_names}
-use Rattle.avro_types.specs.FullNames.{full_name, has_dot, is_full_name, is_name, is_namespace}
+use Rattle.spec_avro.specs.Aliases.{full_names}
+use Rattle.spec_avro.specs.FullNames.{full_name, has_dot, is_full_name, is_name, is_namespace}
 use Rattle.avro_types.specs.Laws.Booleans.{and_true}
 use Rattle.avro_types.specs.Laws.NameParts.{full-inside, undotted-part}
 use Rattle.avro_schema_names.proofs.Texts.{names}

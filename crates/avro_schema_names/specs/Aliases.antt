@@ -2,9 +2,10 @@
 use Rattle.std.specs.Prelude.{ℕ, List, [], Option, Some, None, Result, Ok}
 use Rattle.std.specs.List.{list_all}
 use Rattle.serde_json.specs.Data.{Data}
-use Rattle.avro_types.specs.Aliases.{full_names}
-use Rattle.avro_types.specs.FullNames.{is_full_name, is_name, namespace_of}
-use Rattle.avro_types.specs.Node.{Names, names_of}
+use Rattle.spec_avro.specs.Aliases.{full_names}
+use Rattle.spec_avro.specs.FullNames.{is_full_name, is_name, namespace_of}
+use Rattle.spec_avro.specs.Node.{Names}
+use Rattle.avro_types.specs.Node.{names_of}
 use Rattle.avro_schema_names.specs.declared.error.SchemaError.{SchemaError}
 use Rattle.avro_schema_names.specs.declared.error.SchemaError.TheVariants.{BadName}
 use Rattle.avro_schema_names.specs.Attributes.{texts_of}

@@ -4,13 +4,13 @@ use Rattle.std.specs.Option.{ok_or}
 use Rattle.std.specs.List.{list_all}
 use Rattle.serde_json.specs.Data.{Data, array, Items, no_items, item}
 use Rattle.serde_json.specs.Find.{as_number, as_u64}
-use Rattle.avro_types.specs.declared.limits.TheConstants.{MOST_FIXED, MOST_SYMBOLS}
+use Rattle.spec_avro.specs.declared.limits.TheConstants.{MOST_FIXED, MOST_SYMBOLS}
 use Rattle.avro_schema_names.specs.declared.error.SchemaError.{SchemaError}
 use Rattle.avro_schema_names.specs.declared.error.SchemaError.TheVariants.{Unknown, BadSymbols, BadNumber, TooLarge}
 use Rattle.avro_schema_names.specs.Fault.{◌>>=◌, require}
-use Rattle.avro_types.specs.FullNames.{is_name}
+use Rattle.spec_avro.specs.FullNames.{is_name}
 use Rattle.avro_schema_names.specs.Names.{text_of}
-use Rattle.avro_types.specs.Symbols.{are_distinct, place_of}
+use Rattle.spec_avro.specs.Symbols.{are_distinct, place_of}
 
 -- the texts that a value lists
 abbrev pub texts_in : Items → Result (List (List ℕ)) SchemaError

@@ -5,11 +5,12 @@ use Rattle.std.specs.List.{AllByRecursion}
 use Rattle.serde_json.specs.Data.{Data}
 use Rattle.serde_json.specs.View.{view}
 use Rattle.serde_json.specs.declared.value.Value.{Value}
-use Rattle.avro_types.specs.declared.limits.TheConstants.{MOST_SYMBOLS}
+use Rattle.spec_avro.specs.declared.limits.TheConstants.{MOST_SYMBOLS}
 use Rattle.avro_schema_names.specs.declared.draft.Draft as rust
 use Rattle.avro_schema_names.specs.declared.draft.Draft.TheVariants as drafts
 use Rattle.avro_schema_names.specs.declared.draft.DraftField as rust_field
-use Rattle.avro_types.specs.Node.{Node, Names, EnumNode, names_of, node_of}
+use Rattle.spec_avro.specs.Node.{Node, Names, EnumNode}
+use Rattle.avro_types.specs.Node.{names_of, node_of}
 
 -- a field, and the value at its `default`
 pub record DraftField : Type 0 where

@@ -6,9 +6,9 @@ use Rattle.serde_json.specs.Find.{as_str}
 use Rattle.avro_schema_names.specs.declared.error.SchemaError.{SchemaError}
 use Rattle.avro_schema_names.specs.declared.error.SchemaError.TheVariants.{Unknown, BadName, Redefined}
 use Rattle.avro_schema_names.specs.Fault.{◌>>=◌, require}
-use Rattle.avro_types.specs.FullNames.{is_name, has_dot, is_full_name, unqualified, full_name}
+use Rattle.spec_avro.specs.FullNames.{is_name, has_dot, is_full_name, unqualified, full_name}
 use Rattle.avro_schema_names.specs.Head.{Head, defined_at}
-use Rattle.avro_types.specs.Symbols.{is_used}
+use Rattle.spec_avro.specs.Symbols.{is_used}
 use Rattle.avro_schema_names.specs.Word.{word_of, is_primitive}
 
 abbrev pub null_namespace : List ℕ

@@ -6,7 +6,7 @@ use Rattle.avro_schema_names.specs.declared.word.Form.{Form}
 use Rattle.avro_schema_names.specs.declared.word.Form.TheVariants as forms
 use Rattle.avro_schema_names.specs.declared.word.Word.{Word}
 use Rattle.avro_schema_names.specs.declared.word.Word.TheVariants as words
-use Rattle.avro_types.specs.Node.{Node, NullNode, BooleanNode, IntNode, LongNode, BytesNode, TextNode}
+use Rattle.spec_avro.specs.Node.{Node, NullNode, BooleanNode, IntNode, LongNode, BytesNode, TextNode}
 
 -- the word that a text is
 abbrev pub word_of : List ℕ → Word

@@ -4,7 +4,7 @@ ghost use Rattle.std.specs.Prelude.{◌≡◌, IfOk, None, codes, map, string_by
 ghost use Rattle.serde_json.specs.Find.{get};
 ghost use Rattle.serde_json.specs.View.{view};
 ghost use Rattle.std.specs.List.{list_all};
-ghost use Rattle.avro_types.specs.FullNames.{is_full_name};
+ghost use Rattle.spec_avro.specs.FullNames.{is_full_name};
 ghost use Rattle.avro_types.specs.Node.{names_of};
 ghost use Rattle.avro_schema_names.specs.Aliases.{alias_texts, field_aliases, new_names, type_aliases};
 ghost use Rattle.avro_schema_names.specs.Draft.{data_at};

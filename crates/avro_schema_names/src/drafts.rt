@@ -1,15 +1,15 @@
 //! The drafts of a schema so far, and where each full name is defined.
 
 ghost use Rattle.std.specs.Prelude.{◌≡◌, [], ◌∷◌, ◌++◌, length, set, slice_get, Some, None, false, map, IfOk, OnErr, OnOk};
-ghost use Rattle.avro_types.specs.FullNames.{has_dot, inside, namespace_of};
+ghost use Rattle.spec_avro.specs.FullNames.{has_dot, inside, namespace_of};
 ghost use Rattle.avro_types.specs.Node.{node_of};
-ghost use Rattle.avro_types.specs.Symbols.{is_used, place_of};
+ghost use Rattle.spec_avro.specs.Symbols.{is_used, place_of};
 ghost use Rattle.avro_schema_names.specs.Draft.{Whole, draft_field_of, draft_of, drafts_of, field_names};
 ghost use Rattle.avro_schema_names.specs.Head.{IsUnnamed, Named, defined_at, head_of, head_of_node, heads_of};
 ghost use Rattle.avro_schema_names.specs.Index.{AreOnce, BeginWithNoDot, IsNamespaceOf, IsNumbered, namespaces_of, text_of_namespace};
 
 use crate::draft::{Draft, DraftField};
-use crate::named::{add_first_named, add_named, put};
+use crate::named::{NameParts, add_first_named, add_named, put};
 use crate::namespace::Namespace;
 use avro_types::{Kind, Name};
 use std::alloc::{AllocError, Global};
@@ -190,7 +190,8 @@ impl<'v> Drafts<'v> {
         name.has_two_parts(); // law
         let (nodes, numbers, scopes) = (&mut self.nodes, &mut self.numbers, &mut self.scopes);
         let (namespace, last) = (name.namespace(), name.last());
-        add_first_named(alloc, nodes, numbers, scopes, namespace, last, draft)?;
+        let parts = NameParts { namespace, last };
+        add_first_named(alloc, nodes, numbers, scopes, &parts, draft)?;
         Ok(())
     }
 

@@ -41,27 +41,34 @@ fn scope_of(alloc: Global, name: &str, number: usize) -> Result<BTreeMap<String,
     Ok(scope)
 }
 
-/// Appends a value, and adds its index to a new scope under a name, and that scope's index to the namespaces. An `Err`
-/// leaves all three as they were.
+/// The parts of a full name.
+#[derive(Clone, Copy)]
+pub(crate) struct NameParts<'a> {
+    pub(crate) namespace: &'a str,
+    pub(crate) last: &'a str,
+}
+
+/// Appends a value, and adds its index to a new scope under the last part of a name, and that scope's index to the
+/// namespaces under its namespace. An `Err` leaves all three as they were.
 pub(crate) fn add_first_named<T: Drop>(
     alloc: Global,
     values: &mut Vec<T>,
     namespaces: &mut BTreeMap<String, usize>,
     scopes: &mut Vec<BTreeMap<String, usize>>,
-    namespace: &str,
-    name: &str,
+    name: &NameParts<'_>,
     value: T,
 ) -> Result<(), AllocError>
     ensures values { OnOk result (values.new.items ≡ values.old.items ++ value ∷ []) }
-    ensures namespace { OnOk result (UpdatesBy string_cmp (λ k. slice_cmp nat_cmp namespace.now (string_bytes k))
+    ensures namespace { OnOk result (UpdatesBy string_cmp (λ k. slice_cmp nat_cmp name.now.namespace.now (string_bytes k))
         namespaces.old namespaces.new (Some (length scopes.old.items))) }
-    ensures scope { OnOk result (HasOnlyScope name.now (length values.old.items) scopes.old.items scopes.new.items) }
+    ensures scope { OnOk result (HasOnlyScope name.now.last.now (length values.old.items) scopes.old.items
+        scopes.new.items) }
     ensures same_values { OnErr result (values.new.items ≡ values.old.items) }
     ensures same_namespaces { OnErr result (IsUnchanged namespaces.old namespaces.new) }
     ensures same_scopes { OnErr result (scopes.new.items ≡ scopes.old.items) }
 {
-    let scope = scope_of(alloc, name, values.len())?;
-    let namespace = String::from_str(alloc, namespace)?;
+    let scope = scope_of(alloc, name.last, values.len())?;
+    let namespace = String::from_str(alloc, name.namespace)?;
     values.try_reserve(1)?;
     scopes.try_reserve(1)?;
     namespaces.insert(namespace, scopes.len())?;

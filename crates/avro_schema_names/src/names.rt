@@ -6,7 +6,7 @@ ghost use Rattle.serde_json.specs.Find.{as_str};
 ghost use Rattle.avro_schema_names.specs.Draft.{data_at, field_names};
 ghost use Rattle.avro_schema_names.specs.Fault.{Tells};
 ghost use Rattle.avro_schema_names.specs.declared.error.SchemaError.TheVariants.{NoMemory};
-ghost use Rattle.avro_types.specs.FullNames.{full_name, has_dot, inside, is_full_name, is_letter, is_letter_or_digit, is_name, is_namespace};
+ghost use Rattle.spec_avro.specs.FullNames.{full_name, has_dot, inside, is_full_name, is_letter, is_letter_or_digit, is_name, is_namespace};
 ghost use Rattle.avro_schema_names.specs.Head.{defined_at, heads_of};
 ghost use Rattle.avro_schema_names.specs.Index.{IsNamespaceOf, IsNumbered, text_of_namespace};
 ghost use Rattle.avro_schema_names.specs.Names.{field_name, if_new, new_name, text_of};

@@ -2,7 +2,7 @@
 
 ghost use Rattle.std.specs.Prelude.{◌≡◌, [], IfOk, true};
 ghost use Rattle.std.specs.Arc.{arc_str_bytes};
-ghost use Rattle.avro_types.specs.FullNames.{is_namespace, namespace_of};
+ghost use Rattle.spec_avro.specs.FullNames.{is_namespace, namespace_of};
 
 use avro_types::Name;
 use std::alloc::{AllocError, Global};

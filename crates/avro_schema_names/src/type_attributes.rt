@@ -7,8 +7,8 @@ ghost use Rattle.avro_schema_names.specs.Attributes.{default_symbol, size_of, sy
 ghost use Rattle.avro_schema_names.specs.Draft.{data_at};
 ghost use Rattle.avro_schema_names.specs.Fault.{Tells};
 ghost use Rattle.avro_schema_names.specs.declared.error.SchemaError.TheVariants.{NoMemory};
-ghost use Rattle.avro_types.specs.FullNames.{is_name};
-ghost use Rattle.avro_types.specs.Symbols.{are_distinct};
+ghost use Rattle.spec_avro.specs.FullNames.{is_name};
+ghost use Rattle.spec_avro.specs.Symbols.{are_distinct};
 
 use crate::error::SchemaError;
 use crate::names::{is_name, text_of};

@@ -4,7 +4,7 @@ use Rattle.std.proofs.lemmas.Bool.{cases_eq}
 use Rattle.std.specs.declared.alloc.Global.{Global}
 use Rattle.std.specs.List.{AllByRecursion}
 use Rattle.serde_json.specs.Data.{Data}
-use Rattle.avro_types.specs.Node.{Node}
+use Rattle.spec_avro.specs.Node.{Node}
 use Rattle.avro_schema_paths.specs.Places.{IsPathOf, Path}
 use Rattle.avro_schema_paths.specs.Adds.{Adds, ArePaths, IsAmong, IsNodeAmong}
 use Rattle.avro_schema_paths.specs.ByNumber.{AreByNumber, IsFilled}

@@ -3,7 +3,7 @@ use Rattle.std.proofs.Common.{◌≡◌, ◌⊎◌, inl, inr, ℕ, zero, suc, �
 use Rattle.std.proofs.lemmas.Bool.{cases_lt}
 use Rattle.serde_json.specs.Data.{Data, array, object, Items}
 use Rattle.serde_json.specs.Find.{get, get_item}
-use Rattle.avro_types.specs.Node.{Node, FieldNode, ArrayNode, MapNode, UnionNode}
+use Rattle.spec_avro.specs.Node.{Node, FieldNode, ArrayNode, MapNode, UnionNode}
 use Rattle.avro_schema_names.specs.Word.{form_of, leaf_of, word_of}
 use Rattle.avro_schema_names.specs.Draft.{Draft, Whole, RecordDraft, DraftField}
 use Rattle.avro_schema.specs.Declaring.{DeclareFields, DeclareMembers, Declares, IsPrimitive, a_field, a_fixed, a_map, a_member, a_primitive, a_record, a_reference, a_union, an_array, an_enum, another, no_more_fields, no_more_members, null_type, boolean_type, int_type, long_type, bytes_type, text_type}

@@ -7,7 +7,8 @@ use Rattle.std.specs.Prelude.{IfSome}
 use Rattle.avro_types.specs.declared.kind.Field.{Field}
 use Rattle.serde_json.specs.View.{view, items_view}
 use Rattle.serde_json.specs.declared.value.Value.{Value}
-use Rattle.avro_types.specs.Node.{Node, FieldNode, fields_of}
+use Rattle.spec_avro.specs.Node.{Node, FieldNode}
+use Rattle.avro_types.specs.Node.{fields_of}
 use Rattle.avro_schema_names.specs.Word.{leaf_of, word_of}
 use Rattle.avro_schema_names.specs.declared.word.Form.{Form}
 use Rattle.avro_schema_names.specs.declared.word.Form.TheVariants as forms

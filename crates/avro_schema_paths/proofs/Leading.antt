@@ -1,7 +1,7 @@
 -- Each path leads through the value to what declares the node.
 use Rattle.std.proofs.Common.{◌≡◌, ℕ, List, [], ◌∷◌, ◌++◌, Option, Some, None, option_and_then, refl, ap, ◌∙◌}
 use Rattle.serde_json.specs.Data.{Data, string, array, object}
-use Rattle.avro_types.specs.Node.{Node}
+use Rattle.spec_avro.specs.Node.{Node}
 use Rattle.avro_schema_paths.specs.Following.{LeadsToDeclaration, PathsLeadThere, Wraps, a_list, an_object, a_text, follow, itself, step_in, wrapped}
 use Rattle.avro_schema_paths.specs.Places.{Path, Places, a_type, a_union, a_word, in_wrapper, in_array, in_map, in_record, in_union}
 use Rattle.avro_schema_paths.specs.declared.step.Step.TheVariants as steps

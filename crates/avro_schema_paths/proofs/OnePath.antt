@@ -3,7 +3,7 @@
 use Rattle.std.proofs.Common.{◌≡◌, ◌⊎◌, inl, inr, ℕ, zero, suc, ◌+◌, ◌<◌, ◌≤◌, true, false, List, [], ◌∷◌, ◌++◌, length, map, Option, Some, slice_get, is_some, refl, sym, ap, ◌∙◌, subst, codes, arith, append-nil, length-append}
 use Rattle.serde_json.specs.Data.{Data, array, object, Items, Members}
 use Rattle.serde_json.specs.Find.{get, get_item, get_member}
-use Rattle.avro_types.specs.Node.{Node, ArrayNode, MapNode, UnionNode, EnumNode, FixedNode}
+use Rattle.spec_avro.specs.Node.{Node, ArrayNode, MapNode, UnionNode, EnumNode, FixedNode}
 use Rattle.avro_schema_names.specs.Word.{form_of, is_primitive, leaf_of, word_of}
 use Rattle.avro_schema_names.specs.declared.word.Word.{Word}
 use Rattle.avro_schema_names.specs.declared.word.Word.TheVariants as words

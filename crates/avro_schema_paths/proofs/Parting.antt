@@ -7,7 +7,7 @@ use Rattle.serde_json.specs.View.{view, items_view, number_view}
 use Rattle.serde_json.specs.declared.number.Number.{Number}
 use Rattle.serde_json.specs.declared.value.Value as json
 use Rattle.serde_json.specs.declared.value.Value.{Value, the_lemmas}
-use Rattle.avro_types.specs.Node.{Node}
+use Rattle.spec_avro.specs.Node.{Node}
 use Rattle.avro_schema_names.specs.Word.{form_of}
 use Rattle.avro_schema_names.specs.declared.word.Form.{Form}
 use Rattle.avro_schema_names.specs.declared.word.Form.TheVariants as forms

@@ -2,7 +2,7 @@
 use Rattle.std.specs.Prelude.{◌≡◌, ◌<◌, ℕ, List, ◌++◌, Some, Vec, length, slice_get}
 use Rattle.std.specs.declared.alloc.Global.{Global}
 use Rattle.serde_json.specs.Data.{Data}
-use Rattle.avro_types.specs.Node.{Node}
+use Rattle.spec_avro.specs.Node.{Node}
 use Rattle.std.specs.List.{AllByRecursion}
 use Rattle.avro_schema_paths.specs.Places.{IsPathOf, Path}
 use Rattle.avro_schema_paths.specs.declared.step.Step.{Step}

@@ -2,7 +2,7 @@
 use Rattle.std.specs.Prelude.{◌≡◌, ℕ, Bool, true, false, List, [], ◌∷◌, ◌++◌, map, Option, Some, None, slice_get, codes}
 use Rattle.serde_json.specs.Data.{Data, string, array, object, Items, Members}
 use Rattle.serde_json.specs.Find.{get, get_item}
-use Rattle.avro_types.specs.Node.{Node, ArrayNode, MapNode, UnionNode, RecordNode}
+use Rattle.spec_avro.specs.Node.{Node, ArrayNode, MapNode, UnionNode, RecordNode}
 use Rattle.avro_schema_names.specs.Word.{form_of, leaf_of, word_of}
 use Rattle.avro_schema_names.specs.declared.word.Form.{Form}
 use Rattle.avro_schema_names.specs.declared.word.Form.TheVariants as forms

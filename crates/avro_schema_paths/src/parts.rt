@@ -3,7 +3,7 @@
 ghost use Rattle.std.specs.Prelude.{◌≡◌, ◌<◌, length, map, IfSome, slice_get};
 ghost use Rattle.std.specs.List.{AllByRecursion};
 ghost use Rattle.avro_types.specs.Node.{fields_of as nodes_fields};
-ghost use Rattle.avro_types.specs.WellFormed.{FieldsBelow};
+ghost use Rattle.spec_avro.specs.WellFormed.{FieldsBelow};
 ghost use Rattle.avro_schema_paths.specs.Places.{types_at, item_at, members_at, value_at};
 
 use avro_types::{Field, Kind, Nodes};

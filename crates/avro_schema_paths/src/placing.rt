@@ -5,7 +5,7 @@ ghost use Rattle.std.specs.List.{AllByRecursion};
 ghost use Rattle.serde_json.specs.Data.{array, string};
 ghost use Rattle.serde_json.specs.View.{view, items_view};
 ghost use Rattle.avro_types.specs.Node.{fields_of as nodes_fields};
-ghost use Rattle.avro_types.specs.WellFormed.{FieldsBelow};
+ghost use Rattle.spec_avro.specs.WellFormed.{FieldsBelow};
 ghost use Rattle.avro_schema_names.specs.Word.{leaf_of, word_of};
 ghost use Rattle.avro_schema_names.specs.Draft.{data_at};
 ghost use Rattle.avro_schema_paths.specs.Parts.{InField, InFields, InHeld, InMember, InObject, InWrapper};
@@ -27,7 +27,8 @@ fn is_leaf(text: &str) -> bool
     Word::of_text(text).leaf().is_some()
 }
 
-/// Adds the node that a text declares: none where it is a name ("Primitive Types", "Names").
+/// Adds the node that a text declares: none where it is a name ("Primitive Types", "Names"). `nodes` is read by the
+/// clauses alone.
 fn add_word(
     alloc: Global,
     nodes: &Nodes,

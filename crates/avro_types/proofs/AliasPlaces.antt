@@ -12,9 +12,10 @@ use Rattle.std.proofs.lemmas.List.{map-append}
 use Rattle.std.proofs.lemmas.List.Folds.{list_any-append}
 use Rattle.std.proofs.lemmas.Map.Text.{btree_map_updates_text, btree_set_updates_text}
 use Rattle.std.proofs.lemmas.Slice.Eq.{bytes_eq-Decides}
-use Rattle.avro_types.specs.Aliases.{AreFound, full_names, has_last, is_found, stands_under}
-use Rattle.avro_types.specs.FullNames.{AreParts, full_name, has_dot, inside, namespace_of, unqualified}
-use Rattle.avro_types.specs.Symbols.{is_used}
+use Rattle.avro_types.specs.Aliases.{AreFound, has_last, is_found, stands_under}
+use Rattle.spec_avro.specs.Aliases.{full_names}
+use Rattle.spec_avro.specs.FullNames.{AreParts, full_name, has_dot, inside, namespace_of, unqualified}
+use Rattle.spec_avro.specs.Symbols.{is_used}
 use Rattle.avro_types.specs.Laws.Booleans.{both, false_by, no_true, or_false, same_by}
 use Rattle.avro_types.specs.Laws.Dots.{back-undotted, dotted-behind, namespace-inside, split-parts, unqualified-behind, unqualified-inside}
 use Rattle.avro_types.specs.Laws.NameParts.{name-undotted}

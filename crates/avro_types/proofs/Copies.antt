@@ -3,7 +3,8 @@ use Rattle.std.proofs.Common.{◌≡◌, ℕ, suc, ◌+◌, ◌<◌, List, [], �
 use Rattle.std.proofs.Math.Seq.{drop-cons}
 use Rattle.std.specs.Global.{Vec}
 use Rattle.avro_types.specs.declared.datum.Datum as rust
-use Rattle.avro_types.specs.Datum.{Datum, Pairs, ArrayDatum, MapDatum, RecordDatum, more, pair, datum_of, data_of, pairs_of}
+use Rattle.spec_avro.specs.Datum.{Datum, Pairs, ArrayDatum, MapDatum, RecordDatum, more, pair}
+use Rattle.avro_types.specs.Datum.{datum_of, data_of, pairs_of}
 use Rattle.avro_types.specs.Laws.DatumOf.{datum_of-Array, datum_of-Map, datum_of-Record}
 
 -- one datum in another's place

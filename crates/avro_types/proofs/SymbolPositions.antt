@@ -9,7 +9,7 @@ use Rattle.std.proofs.Math.Seq.{drop-cons}
 use Rattle.std.proofs.lemmas.List.{length-map, length-take}
 use Rattle.std.proofs.lemmas.Map.Text.{btree_map_updates_text}
 use Rattle.std.proofs.lemmas.Slice.Eq.{bytes_eq-Decides}
-use Rattle.avro_types.specs.Symbols.{are_new, is_used, place_of}
+use Rattle.spec_avro.specs.Symbols.{are_new, is_used, place_of}
 use Rattle.avro_types.specs.Laws.Booleans.{is_nowhere}
 use Rattle.avro_types.specs.Laws.Placed.{named-last, none-used, place-behind, used-at, place-within}
 

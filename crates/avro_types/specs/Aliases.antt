@@ -1,14 +1,11 @@
--- The aliases of a type as full names, and where each is found (Avro 1.11, "Aliases").
+-- Where each alias of a type is found, as the code keeps them (Avro 1.11, "Aliases"). This project's own.
 use Rattle.std.specs.Prelude.{◌≡◌, ℕ, ◌&&◌, ◌||◌, List, map, Bool, false, Option, Some, None, String, string_bytes}
 use Rattle.std.specs.BTreeMap.{BTreeMap, get_by_text}
 use Rattle.std.specs.BTreeSet.{BTreeSet, contains_text}
 use Rattle.std.specs.Str.{bytes_eq}
-use Rattle.avro_types.specs.FullNames.{full_name, has_dot, inside}
-use Rattle.avro_types.specs.Symbols.{is_used}
-
--- the full names that texts mean for a type in a namespace
-abbrev pub full_names : List ℕ → List (List ℕ) → List (List ℕ)
-full_names namespace texts = map (full_name namespace) texts
+use Rattle.spec_avro.specs.FullNames.{has_dot, inside}
+use Rattle.spec_avro.specs.Symbols.{is_used}
+use Rattle.spec_avro.specs.Aliases.{full_names}
 
 -- ---- for private clauses: last parts under their namespaces
 

@@ -1,11 +1,7 @@
 pub mod Aliases
-pub mod Conforming
 pub mod Datum
 pub mod DatumCode
-pub mod FullNames
 pub mod Laws
 pub mod Node
-pub mod WellFormed
-pub mod Sizes
 pub mod Symbols
 pub mod Valid

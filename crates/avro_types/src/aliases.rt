@@ -4,9 +4,10 @@ ghost use Rattle.std.specs.Prelude.{◌≡◌, ◌==◌, ◌&&◌, ◌||◌, IfO
 ghost use Rattle.std.specs.Arc.{arc_str_bytes};
 ghost use Rattle.std.specs.BTreeSet.{contains_text};
 ghost use Rattle.std.specs.Str.{bytes_eq};
-ghost use Rattle.avro_types.specs.Aliases.{full_names, is_found, stands_under};
-ghost use Rattle.avro_types.specs.FullNames.{full_name, has_dot, inside, unqualified};
-ghost use Rattle.avro_types.specs.Symbols.{is_used};
+ghost use Rattle.spec_avro.specs.Aliases.{full_names};
+ghost use Rattle.avro_types.specs.Aliases.{is_found, stands_under};
+ghost use Rattle.spec_avro.specs.FullNames.{full_name, has_dot, inside, unqualified};
+ghost use Rattle.spec_avro.specs.Symbols.{is_used};
 
 use crate::name::Name;
 use std::alloc::{AllocError, Global};
@@ -31,7 +32,8 @@ pub struct Aliases {
 impl Model for Aliases {
     ghost use Rattle.std.specs.Prelude.{false, ℕ, List, map, string_bytes};
     ghost use Rattle.std.specs.Arc.{arc_str_bytes};
-    ghost use Rattle.avro_types.specs.Aliases.{AreFound, full_names};
+    ghost use Rattle.avro_types.specs.Aliases.{AreFound};
+    ghost use Rattle.spec_avro.specs.Aliases.{full_names};
 
     ghost Value = { List (List ℕ) };
 

@@ -2,20 +2,7 @@
 
 ghost use Rattle.std.specs.Prelude.{◌≡◌};
 
-/// How many bytes the text of a schema may have.
-pub const MOST_TEXT: usize = 262_144;
-
-/// How many nodes a schema may have.
-pub const MOST_NODES: usize = 1_024;
-
-/// How many fields a record may have.
-pub const MOST_FIELDS: usize = 1_024;
-
-/// How many symbols an enum may have.
-pub const MOST_SYMBOLS: usize = 4_096;
-
-/// How many bytes a fixed may have.
-pub const MOST_FIXED: usize = 1_048_576;
+pub use spec_avro::{MOST_FIELDS, MOST_FIXED, MOST_NODES, MOST_SYMBOLS, MOST_TEXT};
 
 /// The law of what the limits are.
 pub fn limits_are_these()

@@ -2,7 +2,7 @@
 
 ghost use Rattle.std.specs.Prelude.{◌≡◌, IfOk, string_bytes, true};
 ghost use Rattle.std.specs.Arc.{arc_str_bytes};
-ghost use Rattle.avro_types.specs.FullNames.{AreParts, inside, is_namespace, namespace_of, unqualified};
+ghost use Rattle.spec_avro.specs.FullNames.{AreParts, inside, is_namespace, namespace_of, unqualified};
 
 use std::alloc::AllocError;
 use std::marker::Model;
@@ -20,7 +20,7 @@ pub struct Name {
 impl Model for Name {
     ghost use Rattle.std.specs.Prelude.{ℕ, List, string_bytes};
     ghost use Rattle.std.specs.Arc.{arc_str_bytes};
-    ghost use Rattle.avro_types.specs.FullNames.{AreParts, inside};
+    ghost use Rattle.spec_avro.specs.FullNames.{AreParts, inside};
 
     ghost Value = { List ℕ };
 

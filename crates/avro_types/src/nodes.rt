@@ -1,11 +1,11 @@
 //! The nodes of a schema.
 
 ghost use Rattle.std.specs.Prelude.{◌≡◌, ◌<◌, length, Some, slice_get};
-ghost use Rattle.avro_types.specs.Conforming.{DefaultsConform};
+ghost use Rattle.spec_avro.specs.Conforming.{DefaultsConform};
 ghost use Rattle.avro_types.specs.Node.{node_of, nodes_of};
-ghost use Rattle.avro_types.specs.Sizes.{DefaultsHaveSizesWithin};
+ghost use Rattle.spec_avro.specs.Sizes.{DefaultsHaveSizesWithin};
 ghost use Rattle.avro_types.specs.Valid.{AreValid};
-ghost use Rattle.avro_types.specs.WellFormed.{IsWellFormed, NodeIsWellFormed};
+ghost use Rattle.spec_avro.specs.WellFormed.{IsWellFormed, NodeIsWellFormed};
 
 use crate::kind::Kind;
 use crate::limits::MOST_TEXT;
@@ -22,7 +22,8 @@ impl Model for Nodes {
     ghost use Rattle.std.specs.Prelude.{List};
     ghost use Rattle.std.specs.Coded.{codes};
     ghost use Rattle.avro_types.specs.DatumCode.{datum_coded};
-    ghost use Rattle.avro_types.specs.Node.{Node, nodes_of};
+    ghost use Rattle.spec_avro.specs.Node.{Node};
+    ghost use Rattle.avro_types.specs.Node.{nodes_of};
     ghost use Rattle.avro_types.specs.Valid.{AreValid};
 
     ghost Value = { List Node };

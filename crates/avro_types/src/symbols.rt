@@ -1,7 +1,7 @@
 //! The symbols of an enum, found by their texts.
 
 ghost use Rattle.std.specs.Prelude.{◌≡◌, ◌<◌, length, map, is_some, option_map, slice_get, string_bytes, IfOk, IfSome};
-ghost use Rattle.avro_types.specs.Symbols.{are_distinct, place_of};
+ghost use Rattle.spec_avro.specs.Symbols.{are_distinct, place_of};
 
 use std::alloc::{AllocError, Global};
 use std::collections::BTreeMap;

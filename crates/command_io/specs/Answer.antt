@@ -1,11 +1,11 @@
 -- The answers to payload lines. This project's own.
 use Rattle.std.specs.Prelude.{◌≡◌, List, [], ◌∷◌, ◌++◌, ℕ, length, codes, nat_lt, MatchBool, MatchOption}
-use Rattle.avro_types.specs.Node.{Node}
+use Rattle.spec_avro.specs.Node.{Node}
 use Rattle.command_io.specs.OutcomeLine.{line_of}
 use Rattle.command_io.specs.Payload.{payload_of}
-use Rattle.avro_bytes.specs.Outcome.{Outcome}
-use Rattle.resolver.specs.Outcome.{IsOutcome}
-use Rattle.avro_bytes.specs.declared.limits.TheConstants.{MOST_PAYLOAD}
+use Rattle.spec_avro.specs.Outcome.{Outcome}
+use Rattle.spec_avro.specs.PayloadOutcome.{IsOutcome}
+use Rattle.spec_avro.specs.declared.limits.TheConstants.{MOST_PAYLOAD}
 
 -- the answer to a payload, between a writer's nodes and a reader's: by its size, then by its outcome
 abbrev pub IsPayloadAnswer : List Node → List Node → List ℕ → List ℕ → Type 0

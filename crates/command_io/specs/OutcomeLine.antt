@@ -2,9 +2,9 @@
 use Rattle.std.specs.Prelude.{ℕ, List, [], ◌∷◌, ◌++◌, codes}
 use Rattle.std.specs.Fmt.{decimal}
 use Rattle.hex.specs.Hex.{encode_lower}
-use Rattle.avro_bytes.specs.MalformedKind as malformed
-use Rattle.avro_bytes.specs.MismatchKind as mismatch
-use Rattle.avro_bytes.specs.Outcome.{Outcome, Done, Mismatched, Malformed, OutputTooLarge}
+use Rattle.spec_avro.specs.MalformedKind as malformed
+use Rattle.spec_avro.specs.MismatchKind as mismatch
+use Rattle.spec_avro.specs.Outcome.{Outcome, Done, Mismatched, Malformed, OutputTooLarge}
 
 -- bytes in hexadecimal, in lower case, and `-` for none
 abbrev pub hex_of : List ℕ → List ℕ

@@ -1,6 +1,6 @@
 -- Answers to lines, one after the other.
 use Rattle.std.proofs.Common.{◌≡◌, ℕ, List, [], ◌∷◌, ◌++◌, refl, sym, ap, ◌∙◌, append_assoc, append-nil, subst}
-use Rattle.avro_types.specs.Node.{Node}
+use Rattle.spec_avro.specs.Node.{Node}
 use Rattle.command_io.specs.Answer.{AreAnswers, IsAnswer}
 
 -- what is an answer to a line

@@ -2,13 +2,13 @@
 -- which it stops.
 use Rattle.std.proofs.Common.{◌≡◌, ℕ, Bool, true, false, List, [], ◌∷◌, ◌++◌, length, Option, Some, None, Result, Ok, Err, MatchBool, MatchOption, MatchResult, nat_lt, drop, codes, refl, sym, ap, ◌∙◌}
 use Rattle.std.specs.List.{concat}
-use Rattle.avro_types.specs.Node.{Node}
+use Rattle.spec_avro.specs.Node.{Node}
 use Rattle.assembler.specs.Assembling.{assembled}
 use Rattle.isa.specs.Program.{Program}
 use Rattle.program_definition.specs.Code.{code_of}
-use Rattle.avro_bytes.specs.Outcome.{Outcome}
-use Rattle.avro_bytes.specs.declared.limits.TheConstants.{MOST_PAYLOAD}
-use Rattle.resolver.specs.Outcome.{IsOutcome}
+use Rattle.spec_avro.specs.Outcome.{Outcome}
+use Rattle.spec_avro.specs.declared.limits.TheConstants.{MOST_PAYLOAD}
+use Rattle.spec_avro.specs.PayloadOutcome.{IsOutcome}
 use Rattle.program_correctness.specs.Alone.{EndsAreLast, RowsAreCounted, RunsGoOn}
 use Rattle.command_io.specs.OutcomeLine.{line_of}
 use Rattle.command_io.specs.RunLine.{line_of_run}

@@ -5,7 +5,7 @@ use Rattle.std.specs.Result.{is_ok}
 use Rattle.std.specs.List.{concat}
 use Rattle.std.proofs.lemmas.Bool.{leb-false, leb-true, lt-leb, lt-ltb}
 use Rattle.isa.specs.Lists.{total_length}
-use Rattle.avro_bytes.specs.declared.limits.TheConstants.{MOST_PAYLOAD}
+use Rattle.spec_avro.specs.declared.limits.TheConstants.{MOST_PAYLOAD}
 use Rattle.assembler.specs.Things.{each_in}
 use Rattle.assembler.specs.Words.{parts}
 use Rattle.assembler.proofs.Each.{with_front, word_fails, word_read, words_read}

@@ -1,12 +1,12 @@
 -- What `debug` answers: lines change one session, which has its whole payload from the start. This project's own.
 use Rattle.std.specs.Prelude.{◌≡◌, ℕ, false, List, [], length, nat_lt, if◌then◌else◌, Option, Some, None, Result, Ok, Err, IfErr, MatchOption}
 use Rattle.command_io.specs.Payload.{payload_of}
-use Rattle.avro_types.specs.Node.{Node}
+use Rattle.spec_avro.specs.Node.{Node}
 use Rattle.command_io.specs.Reading.{debug_line}
 use Rattle.command_io.specs.declared.debug_line.DebugLine.{DebugLine}
 use Rattle.command_io.specs.declared.debug_line.DebugLine.TheVariants as lines
 use Rattle.isa.specs.Program.{Program}
-use Rattle.avro_bytes.specs.declared.limits.TheConstants.{MOST_PAYLOAD}
+use Rattle.spec_avro.specs.declared.limits.TheConstants.{MOST_PAYLOAD}
 use Rattle.program_definition.specs.Code.{code_of}
 use Rattle.session_core.specs.Changes.{Maybe, Surely, break_refusal, clear_refusal, cleared_at, finished, set_at, with_piece}
 use Rattle.session_core.specs.SessionNames.{break_refusal_name, clear_refusal_name}

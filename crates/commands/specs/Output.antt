@@ -1,7 +1,7 @@
 -- The output for an input, and the status. This project's own.
 use Rattle.std.specs.Prelude.{◌≡◌, ⊤, ℕ, Bool, List, [], ◌∷◌, ◌++◌, drop, if◌then◌else◌, MatchOption, MatchResult}
 use Rattle.hex.specs.Hex.{encode_lower}
-use Rattle.avro_types.specs.Node.{Node}
+use Rattle.spec_avro.specs.Node.{Node}
 use Rattle.assembler.specs.Assembling.{assembled}
 use Rattle.assembler.specs.Listing.{listing_of}
 use Rattle.avro_loader.specs.Image.{image_of}

@@ -5,7 +5,7 @@ use Rattle.assembler.specs.Things.{each_in}
 use Rattle.assembler.specs.Words.{parts}
 use Rattle.isa.specs.Program.{Program}
 use Rattle.isa.specs.State.{State}
-use Rattle.avro_bytes.specs.declared.limits.TheConstants.{MOST_PAYLOAD}
+use Rattle.spec_avro.specs.declared.limits.TheConstants.{MOST_PAYLOAD}
 use Rattle.program_correctness.specs.Alone.{run_alone}
 use Rattle.command_io.specs.Payload.{payload_of}
 use Rattle.command_io.specs.RunLine.{line_of_run}

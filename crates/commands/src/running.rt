@@ -5,7 +5,7 @@ ghost use Rattle.std.specs.List.{concat};
 ghost use Rattle.assembler.specs.Assembling.{assembled};
 ghost use Rattle.assembler.specs.declared.fault.AsmFault.{AsmFault};
 ghost use Rattle.isa.specs.Program.{Program as Parted};
-ghost use Rattle.avro_bytes.specs.declared.limits.TheConstants.{MOST_PAYLOAD};
+ghost use Rattle.spec_avro.specs.declared.limits.TheConstants.{MOST_PAYLOAD};
 ghost use Rattle.command_io.specs.Lines.{lines};
 ghost use Rattle.command_io.specs.Answer.{AreAnswers};
 ghost use Rattle.commands.specs.Listed.{listed};

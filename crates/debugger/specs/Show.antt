@@ -1,7 +1,7 @@
 -- The text that a debugger shows of a state. All of this is this project's own.
 use Rattle.std.specs.Prelude.{ℕ, Bool, true, false, List, [], ◌∷◌, ◌++◌, codes, reverse, Option, Some, None}
 use Rattle.std.specs.List.{flat_map}
-use Rattle.avro_bytes.specs.Outcome.{Done, Malformed, Mismatched, OutputTooLarge}
+use Rattle.spec_avro.specs.Outcome.{Done, Malformed, Mismatched, OutputTooLarge}
 use Rattle.isa.specs.State.{Blocks, End, Frame, Out, Rec, Skip, SkipBlocks, State, Trapped}
 use Rattle.debugger.specs.Words.{bytes, number, moving_content, number_or_none, truth, walk}
 

@@ -1,8 +1,7 @@
 -- What a batch has reported of its first items stays true while a later output is written after theirs, and so it is
 -- one item more that it has reported.
 use Rattle.std.proofs.Common.{◌≡◌, ◌≤◌, ◌<◌, ◌+◌, ◌-◌, ℕ, List, [], ◌∷◌, ◌++◌, length, take, drop, refl, sym, ap, ◌∙◌, subst, arith}
-use Rattle.std.proofs.lemmas.List.{drop-take, length-drop, length-take-le, take-take}
-use Rattle.std.proofs.lemmas.List.{append-nil}
+use Rattle.std.proofs.lemmas.List.{drop-take, length-drop, length-take-le, take-take, append-nil}
 use Rattle.std.proofs.Math.ListN.{drop_of_length-le}
 use Rattle.std.proofs.Math.Seq.{drop_at}
 use borrow.Rule.Slice.PartMut.{put_mid}

@@ -1,8 +1,8 @@
 -- The numbers by which reports cross to another language. All of them are this project's own.
 use Rattle.std.specs.Prelude.{ℕ}
-use Rattle.avro_bytes.specs.declared.fault.MalformedKind.{MalformedKind}
-use Rattle.avro_bytes.specs.declared.fault.MalformedKind.TheVariants as malformed
-use Rattle.avro_bytes.specs.MismatchKind as mismatch
+use Rattle.spec_avro.specs.declared.malformed.MalformedKind.{MalformedKind}
+use Rattle.spec_avro.specs.declared.malformed.MalformedKind.TheVariants as malformed
+use Rattle.spec_avro.specs.MismatchKind as mismatch
 use Rattle.wire_frames.specs.declared.envelope.EnvelopeError.{EnvelopeError}
 use Rattle.wire_frames.specs.declared.envelope.EnvelopeError.TheVariants as envelopes
 use Rattle.embedding.specs.declared.numbers.ReportNumbers.{ReportNumbers}

@@ -5,9 +5,9 @@ use Rattle.std.specs.Str.{IsUtf8}
 use Rattle.avro_schema.specs.Schema.{Declaration, schema_of}
 use Rattle.avro_schema_names.specs.declared.error.SchemaError.{SchemaError}
 use Rattle.avro_schema_names.specs.declared.error.SchemaError.TheVariants as schema
-use Rattle.avro_types.specs.Node.{Node}
+use Rattle.spec_avro.specs.Node.{Node}
 use Rattle.program_definition.specs.Code.{code_of as program_of}
-use Rattle.resolver.specs.Safety.{IsSafe}
+use Rattle.spec_avro.specs.Safety.{IsSafe}
 use Rattle.embedding.specs.declared.opening.OpenError.{OpenError}
 use Rattle.embedding.specs.declared.opening.OpenError.TheVariants as errors
 use Rattle.embedding.specs.declared.opening.TextFault.{TextFault}

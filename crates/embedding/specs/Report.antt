@@ -2,9 +2,11 @@
 -- transcoder. All of this is this project's own; the outcome of a payload is that of `resolver`, and a message is an
 -- `envelope` of `wire_frames`.
 use Rattle.std.specs.Prelude.{◌≡◌, ◌≢◌, ◌≤◌, ◌<◌, ℕ, List, [], ◌++◌, length, take, Option, Some, None, Err}
-use Rattle.avro_bytes.specs.Outcome.{Done, Mismatched, Malformed, OutputTooLarge, outcome_of}
+use Rattle.spec_avro.specs.Outcome.{Done, Mismatched, Malformed, OutputTooLarge}
+use Rattle.avro_bytes.specs.Outcome.{outcome_of}
 use Rattle.avro_bytes.specs.declared.payload.Outcome as rust
-use Rattle.resolver.specs.Outcome.{IsOutcome, Transcodes, refusal}
+use Rattle.spec_avro.specs.PayloadOutcome.{IsOutcome}
+use Rattle.resolver.specs.Outcome.{Transcodes, refusal}
 use Rattle.resolver.specs.declared.transcoding.TranscodeError.{TranscodeError}
 use Rattle.resolver.specs.declared.transcoding.TranscodeError.TheVariants as refusals
 use Rattle.wire_frames.specs.Envelope.{IsNoMessage, envelope, prefix}

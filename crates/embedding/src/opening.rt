@@ -2,9 +2,8 @@
 
 ghost use Rattle.std.specs.Prelude.{◌≡◌, List, Ok, ℕ};
 ghost use Rattle.avro_schema.specs.Schema.{schema_of};
-ghost use Rattle.avro_types.specs.Node.{Node};
-ghost use Rattle.embedding.specs.Opening.{IsOpenError, IsTextFault, Opens, ParsesBytes, TellsReading, TellsSafety};
-ghost use Rattle.embedding.specs.Opening.{fault_code, fault_of, status_of};
+ghost use Rattle.spec_avro.specs.Node.{Node};
+ghost use Rattle.embedding.specs.Opening.{IsOpenError, IsTextFault, Opens, ParsesBytes, TellsReading, TellsSafety, fault_code, fault_of, status_of};
 ghost use Rattle.embedding.specs.Status.{code_of};
 
 use crate::owning::OwningTranscoder;

@@ -2,7 +2,7 @@
 use Rattle.std.specs.Prelude.{ℕ, List}
 use Rattle.avro_bytes.specs.Outcome.{outcome_of}
 use Rattle.avro_bytes.specs.declared.payload.Outcome as rust
-use Rattle.resolver.specs.Outcome.{IsOutcome}
+use Rattle.spec_avro.specs.PayloadOutcome.{IsOutcome}
 use Rattle.session_pool.specs.Pass.{Pass}
 
 -- the outcome of a payload for the pair of a pass

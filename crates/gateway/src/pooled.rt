@@ -1,7 +1,7 @@
 //! Transcoding by sessions of a pool.
 
 ghost use Rattle.std.specs.Prelude.{◌≡◌, ◌≤◌, IfErr, IfOk, OnErr, vec_len};
-ghost use Rattle.avro_bytes.specs.declared.limits.TheConstants.{MOST_PAYLOAD};
+ghost use Rattle.spec_avro.specs.declared.limits.TheConstants.{MOST_PAYLOAD};
 ghost use Rattle.session_pool_slots.specs.Account.{new_account};
 ghost use Rattle.session_pool.specs.Seats.{IsPassOf, Rests, told};
 ghost use Rattle.gateway_core.specs.Gates.{SaidNo};

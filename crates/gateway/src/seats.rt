@@ -5,7 +5,7 @@ ghost use Rattle.session_pool.specs.Seats.{IsNewClient, IsNewWorker, Rests, Rest
 
 use session_pool::{ClientSeat, SessionPool, WorkerSeat};
 
-/// Takes out the last of some clients' seats. `None` where none is left.
+/// Takes out the last of some clients' seats. `None` where none is left. `pool` is read by the clauses alone.
 pub fn pop_client<'p>(
     pool: &SessionPool<'p>,
     seats: &mut Vec<ClientSeat<'p>>,
@@ -19,7 +19,7 @@ pub fn pop_client<'p>(
     seats.pop()
 }
 
-/// Takes out the last of some workers' seats. `None` where none is left.
+/// Takes out the last of some workers' seats. `None` where none is left. `pool` is read by the clauses alone.
 pub fn pop_worker<'p>(
     pool: &SessionPool<'p>,
     seats: &mut Vec<WorkerSeat<'p>>,

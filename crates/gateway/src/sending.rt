@@ -1,7 +1,7 @@
 //! Sending a session a whole payload.
 
 ghost use Rattle.std.specs.Prelude.{◌≡◌, ◌≤◌, IfErr, OnOk, vec_len};
-ghost use Rattle.avro_bytes.specs.declared.limits.TheConstants.{MOST_PAYLOAD};
+ghost use Rattle.spec_avro.specs.declared.limits.TheConstants.{MOST_PAYLOAD};
 ghost use Rattle.session_pool_slots.specs.Account.{new_account, with_close, with_sent};
 ghost use Rattle.session_pool.specs.Seats.{IsPassOf, KeepsOthers, Rests, told};
 ghost use Rattle.gateway_core.specs.Gates.{Asked, SaidNo};

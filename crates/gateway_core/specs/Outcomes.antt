@@ -1,7 +1,7 @@
 -- What is answered of a payload between two schemas.
 use Rattle.std.specs.Prelude.{◌≡◌, ◌⊎◌, ℕ, List, IfSome}
-use Rattle.avro_bytes.specs.Outcome.{Outcome, Done, Mismatched, Malformed, OutputTooLarge}
-use Rattle.resolver.specs.Outcome.{IsOutcome}
+use Rattle.spec_avro.specs.Outcome.{Outcome, Done, Mismatched, Malformed, OutputTooLarge}
+use Rattle.spec_avro.specs.PayloadOutcome.{IsOutcome}
 use Rattle.schema_registry.specs.Shared.{Shown}
 use Rattle.wire_frames.specs.Envelope.{envelope}
 use Rattle.gateway_requests.specs.Answer.{Answer, Rewritten, Refused}

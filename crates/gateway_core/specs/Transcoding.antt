@@ -2,7 +2,7 @@
 use Rattle.std.specs.Prelude.{List, ℕ, IfSome}
 use Rattle.avro_bytes.specs.Outcome.{outcome_of}
 use Rattle.avro_bytes.specs.declared.payload.Outcome as rust
-use Rattle.resolver.specs.Outcome.{IsOutcome}
+use Rattle.spec_avro.specs.PayloadOutcome.{IsOutcome}
 use Rattle.schema_registry.specs.Shared.{Shown}
 use Rattle.gateway_core.specs.declared.transcode.TranscodeFault.{TranscodeFault}
 use Rattle.gateway_core.specs.declared.transcode.TranscodeFault.TheVariants.{ProgramTooLarge, Clash, Full, NotFinished, NoMemory}

@@ -2,7 +2,7 @@
 
 ghost use Rattle.std.specs.Prelude.{◌≡◌, ◌≤◌, ◌⊎◌, IfErr, IfNone, IfOk, IfSome, length, vec_len};
 ghost use Rattle.avro_bytes.specs.Outcome.{outcome_of};
-ghost use Rattle.avro_bytes.specs.declared.limits.TheConstants.{MOST_PAYLOAD};
+ghost use Rattle.spec_avro.specs.declared.limits.TheConstants.{MOST_PAYLOAD};
 ghost use Rattle.schema_registry.specs.Shared.{IsReceiptOf};
 ghost use Rattle.gateway_requests.specs.Answer.{answer_of};
 ghost use Rattle.gateway_requests.specs.declared.limits.TheConstants.{MOST_BODY};

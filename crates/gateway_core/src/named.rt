@@ -7,8 +7,7 @@ ghost use Rattle.gateway_requests.specs.Sizes.{IsWithin};
 ghost use Rattle.gateway_requests.specs.Steps.{Tells};
 ghost use Rattle.gateway_requests.specs.declared.limits.TheConstants.{MOST_BODY};
 ghost use Rattle.gateway_core.specs.Gates.{SaidNo};
-ghost use Rattle.gateway_core.specs.NamedServing.{FulfilsNamed, IsNamedAnswer, IsNamedAnswerTo, IsNamedReply};
-ghost use Rattle.gateway_core.specs.NamedServing.{IsNamedReplyTo, TellsTextOf, TellsUnnamed};
+ghost use Rattle.gateway_core.specs.NamedServing.{FulfilsNamed, IsNamedAnswer, IsNamedAnswerTo, IsNamedReply, IsNamedReplyTo, TellsTextOf, TellsUnnamed};
 ghost use Rattle.gateway_core.specs.Serving.{TellsRequest};
 ghost use Rattle.gateway_core.specs.Transcoding.{IsWhyNone};
 

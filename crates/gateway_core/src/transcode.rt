@@ -31,7 +31,7 @@ pub struct ReceiptPair {
 /// A transcoder, which returns the outcome of payloads for pairs of receipts of one registry.
 pub trait Transcode {
     ghost use Rattle.std.specs.Prelude.{◌≡◌, ◌≤◌, ℕ, List, IfErr, IfOk, vec_len};
-    ghost use Rattle.avro_bytes.specs.declared.limits.TheConstants.{MOST_PAYLOAD};
+    ghost use Rattle.spec_avro.specs.declared.limits.TheConstants.{MOST_PAYLOAD};
     ghost use Rattle.schema_registry.specs.Shared.{IsReceiptOf, Shown};
     ghost use Rattle.gateway_core.specs.declared.transcode.TranscodeFault.{TranscodeFault};
     ghost use Rattle.gateway_core.specs.Gates.{SaidNo};

@@ -10,12 +10,11 @@ use Rattle.httparse.specs.declared.spans.RequestSpans.{RequestSpans}
 use Rattle.httparse.specs.declared.spans.Span.{Span}
 use Rattle.httparse.proofs.GrammarLemmas.{ReadsRequest-append}
 use Rattle.gateway_requests.specs.Front.{HasNoHead, IsAllowed}
-use Rattle.gateway_requests.specs.declared.limits.TheConstants.{MOST_FIELDS, MOST_HEAD}
+use Rattle.gateway_requests.specs.declared.limits.TheConstants.{MOST_FIELDS, MOST_HEAD, MOST_BODY}
 use Rattle.gateway_requests.proofs.Fronts.{head_in_front, is_allowed}
 use Rattle.gateway_requests.specs.declared.fault.Fault.{Fault}
 use Rattle.gateway_requests.specs.declared.fault.Fault.TheVariants.{BadRequest, NoMemory}
 use Rattle.gateway_requests.specs.declared.choosing.Chosen.{Chosen}
-use Rattle.gateway_requests.specs.declared.limits.TheConstants.{MOST_BODY}
 use Rattle.gateway_requests.specs.declared.request.Request as rust
 use Rattle.gateway_requests.specs.Asking.{IsAsked, asked, asked_for, body_in, chosen}
 use Rattle.gateway_requests.specs.Path.{path_of}

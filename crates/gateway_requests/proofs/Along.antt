@@ -1,6 +1,5 @@
 -- A walk along a literal, and over a parameter that takes a segment.
-use Rattle.std.proofs.Common.{◌≡◌, ◌≢◌, ◌+◌, ◌-◌, ◌<◌, ◌++◌, ◌∙◌, ℕ, suc, List, [], ◌∷◌, length, drop, T, zero, Bool}
-use Rattle.std.proofs.Common.{true, false, refl, ap, nat_eq, ltb, ◌==◌, ◌&&◌, not, arith, length-append}
+use Rattle.std.proofs.Common.{◌≡◌, ◌≢◌, ◌+◌, ◌-◌, ◌<◌, ◌++◌, ◌∙◌, ℕ, suc, List, [], ◌∷◌, length, drop, T, zero, Bool, true, false, refl, ap, nat_eq, ltb, ◌==◌, ◌&&◌, not, arith, length-append}
 use Rattle.std.proofs.Math.Seq.{drop-append_seam}
 use Rattle.std.proofs.lemmas.Bool.Decides.{nat_tests}
 use Rattle.std.specs.Cmp.Lexicographic.{bytes_decides}
@@ -8,8 +7,7 @@ use Rattle.std.specs.List.{ends_with}
 use Rattle.std.specs.Path.{HasNoSlash, has_no_slash}
 use Rattle.matchit.specs.Level.{IsText}
 use Rattle.matchit.specs.Rows.{RowsOf, param_token, catch_all_token}
-use Rattle.matchit.specs.Seek.{own, step, seek, param_step, segment, has_slash, longest_suffix, with_suffix, cuts}
-use Rattle.matchit.specs.Seek.{slash}
+use Rattle.matchit.specs.Seek.{own, step, seek, param_step, segment, has_slash, longest_suffix, with_suffix, cuts, slash}
 use Rattle.gateway_requests.specs.Paths.{IsSegment}
 use Rattle.gateway_requests.proofs.Walks.{or_else-none, param_step-nil, seek-nil, seek-drop, drop-length}
 

@@ -1,14 +1,10 @@
 -- What an answer of a walk says of the path: the pattern of some row with that key fits it.
-use Rattle.std.proofs.Common.{◌≡◌, ◌-◌, ◌<◌, ◌≤◌, ◌++◌, ◌∙◌, ◌⊎◌, inl, inr, ℕ, zero, suc, List, [], ◌∷◌, length, take}
-use Rattle.std.proofs.Common.{drop, Option, Some, None, Bool, true, false, cond, refl, sym, ap, ltb, ◌==◌, arith}
-use Rattle.std.proofs.Common.{append-nil, take-append-drop, length-drop}
+use Rattle.std.proofs.Common.{◌≡◌, ◌-◌, ◌<◌, ◌≤◌, ◌++◌, ◌∙◌, ◌⊎◌, inl, inr, ℕ, zero, suc, List, [], ◌∷◌, length, take, drop, Option, Some, None, Bool, true, false, cond, refl, sym, ap, ltb, ◌==◌, arith, append-nil, take-append-drop, length-drop}
 use Rattle.std.proofs.lemmas.Bool.Decides.{nat_tests}
 use Rattle.matchit.specs.Rows.{RowsOf, param_token, catch_all_token}
-use Rattle.matchit.specs.Seek.{own, step, or_else, seek, first, param_step, segment, has_slash, same_text}
-use Rattle.matchit.specs.Seek.{longest_suffix, with_suffix}
+use Rattle.matchit.specs.Seek.{own, step, or_else, seek, first, param_step, segment, has_slash, same_text, longest_suffix, with_suffix}
 use Rattle.gateway_requests.specs.Paths.{IsSegment}
-use Rattle.gateway_requests.proofs.Walks.{seek-nil, seek-drop, longest-short, drop-length, no_slash-whole}
-use Rattle.gateway_requests.proofs.Walks.{no_slash-part}
+use Rattle.gateway_requests.proofs.Walks.{seek-nil, seek-drop, longest-short, drop-length, no_slash-whole, no_slash-part}
 
 -- the texts that a token matches
 abbrev pub StandsFor : ℕ → List ℕ → Type 0

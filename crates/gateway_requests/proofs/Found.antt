@@ -1,14 +1,11 @@
 -- A path that the pattern of a route fits is one of the route's paths.
-use Rattle.std.proofs.Common.{◌≡◌, ◌<◌, ◌++◌, ◌∙◌, inl, inr, ℕ, List, [], ◌∷◌, codes, Bool, true, refl, ap, subst}
-use Rattle.std.proofs.Common.{ltb, ◌&&◌, arith, append-nil, append_assoc}
+use Rattle.std.proofs.Common.{◌≡◌, ◌<◌, ◌++◌, ◌∙◌, inl, inr, ℕ, List, [], ◌∷◌, codes, Bool, true, refl, ap, subst, ltb, ◌&&◌, arith, append-nil, append_assoc}
 use Rattle.std.proofs.lemmas.Bool.Decides.{nat_tests}
 use Rattle.matchit.specs.Rows.{RowsOf, param_token}
 use Rattle.matchit.specs.Level.{IsText}
-use Rattle.gateway_requests.specs.Paths.{IsPathOf, IsSegment, subjects, subject, versions, version, schema}
-use Rattle.gateway_requests.specs.Paths.{compatibility, config, subject_config, transcode}
+use Rattle.gateway_requests.specs.Paths.{IsPathOf, IsSegment, subjects, subject, versions, version, schema, compatibility, config, subject_config, transcode}
 use Rattle.gateway_requests.specs.declared.route.Route.{Route}
-use Rattle.gateway_requests.specs.declared.route.Route.TheVariants.{Subject, Versions, Version, Schema, Compatibility}
-use Rattle.gateway_requests.specs.declared.route.Route.TheVariants.{SubjectConfig, Transcode}
+use Rattle.gateway_requests.specs.declared.route.Route.TheVariants.{Subject, Versions, Version, Schema, Compatibility, SubjectConfig, Transcode}
 use Rattle.gateway_requests.proofs.Fits.{Fits, SomeFits, StandsFor}
 use Rattle.gateway_requests.proofs.Table.{any, table}
 

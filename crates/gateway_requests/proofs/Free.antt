@@ -6,8 +6,7 @@ use Rattle.matchit.specs.Rows.{RowsOf}
 use Rattle.matchit.proofs.OnLiterals.{matchit_on_literals}
 use Rattle.gateway_requests.specs.Route.{IsFree, with_route}
 use Rattle.gateway_requests.specs.declared.route.Route.{Route}
-use Rattle.gateway_requests.specs.declared.route.Route.TheVariants.{Subjects, Subject, Versions, Version, Schema}
-use Rattle.gateway_requests.specs.declared.route.Route.TheVariants.{Compatibility, Config, SubjectConfig}
+use Rattle.gateway_requests.specs.declared.route.Route.TheVariants.{Subjects, Subject, Versions, Version, Schema, Compatibility, Config, SubjectConfig}
 
 pub subjects-free : IsFree (parse_route (codes "/subjects")) []
 unfolding matchit_on_literals

@@ -1,10 +1,8 @@
 -- A walk over rows does not look at the rows' keys.
-use Rattle.std.proofs.Common.{◌≡◌, ◌-◌, ℕ, zero, suc, List, [], ◌∷◌, length, Option, Some, None, Bool, true, false}
-use Rattle.std.proofs.Common.{cond, refl, ap, ltb, ◌==◌}
+use Rattle.std.proofs.Common.{◌≡◌, ◌-◌, ℕ, zero, suc, List, [], ◌∷◌, length, Option, Some, None, Bool, true, false, cond, refl, ap, ltb, ◌==◌}
 use Rattle.std.specs.Prelude.{option_map}
 use Rattle.matchit.specs.Rows.{RowsOf, param_token, catch_all_token}
-use Rattle.matchit.specs.Seek.{own, step, or_else, seek, param_step, segment, has_slash, same_text, longest_from}
-use Rattle.matchit.specs.Seek.{longest_suffix, with_suffix, better}
+use Rattle.matchit.specs.Seek.{own, step, or_else, seek, param_step, segment, has_slash, same_text, longest_from, longest_suffix, with_suffix, better}
 
 -- the rows with another key in each one's place
 abbrev pub with_keys : {K L : Type 0} → (K → L) → RowsOf K → RowsOf L

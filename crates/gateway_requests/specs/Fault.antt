@@ -1,8 +1,8 @@
 -- The codes, statuses and texts of faults (Confluent Schema Registry API, "Errors"; 41301, those from 42250 on and 501
 -- are this project's own, and so are the texts).
 use Rattle.std.specs.Prelude.{◌≡◌, ◌⊎◌, ◌/◌, ℕ, List, ◌++◌, codes, decimal}
-use Rattle.avro_bytes.specs.MalformedKind.{name_of as name_of_kind}
-use Rattle.avro_bytes.specs.MismatchKind.{name_of as name_of_mismatch}
+use Rattle.spec_avro.specs.MalformedKind.{name_of as name_of_kind}
+use Rattle.spec_avro.specs.MismatchKind.{name_of as name_of_mismatch}
 use Rattle.avro_schema_names.specs.SchemaError.{name_of as name_of_schema_error}
 use Rattle.wire_frames.specs.Envelope.{name_of as name_of_envelope_error}
 use Rattle.gateway_requests.specs.declared.status.Status.{Status}

@@ -1,7 +1,7 @@
 //! The limits of a request's head and body, which are this project's own.
 
 ghost use Rattle.std.specs.Prelude.{◌≡◌, ◌+◌};
-ghost use Rattle.avro_bytes.specs.declared.limits.TheConstants.{MOST_PAYLOAD};
+ghost use Rattle.spec_avro.specs.declared.limits.TheConstants.{MOST_PAYLOAD};
 ghost use Rattle.wire_frames.specs.declared.envelope.TheConstants.{PREFIX_LENGTH};
 
 /// How many bytes a head may have, from the first byte to the end of the empty line that closes it.

@@ -1,7 +1,7 @@
 //! Registry.
 //!
-//! What a note knows of a once cell, where many threads can read it; and a table of what is held for ids of 32 bits: for
-//! each id one value, which is set once for all threads and for good, and is found without a lock.
+//! What a note knows of a once cell, where many threads can read it; and a table of what is held for ids of 32 bits:
+//! for each id one value, which is set once for all threads and for good, and is found without a lock.
 #![tactic(auto)]
 
 mod bytes;

@@ -65,8 +65,8 @@ impl<T: Drop> IdTable<T> {
     }
 
     /// Holds a value for an id, for good, where nothing is held for it. Returns what is then held, with its note, and
-    /// which value that is: the one given, or the one of another call that was first, and then the one given is dropped.
-    /// The error is want of memory; then nothing is held that was not before, and the value given is dropped.
+    /// which value that is: the one given, or the one of another call that was first, and then the one given is
+    /// dropped. The error is want of memory; then nothing is held that was not before, and the value given is dropped.
     pub fn hold(&self, id: u32, value: Box<T>) -> Result<(&T, IdNote<T>, HeldValue), AllocError>
         ensures held { IfOk result (λ r. IsPathOf self.now r.1 × (r.1.id ≡ id) × (r.1.last.1 ≡ Some r.0.now)) }
         ensures given { IfOk result (λ r. r.2 ≡ Given → r.1.last.1 ≡ Some value.value) }

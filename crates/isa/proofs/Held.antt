@@ -2,7 +2,7 @@
 use Rattle.std.proofs.Common.{replicate, ◌≡◌, ℕ, zero, suc, ◌+◌, ◌≤◌, Bool, true, false, cond, List, [], ◌∷◌, length, map, Option, Some, None, refl, ◌∙◌, arith, length-append}
 use Rattle.std.specs.Prelude.{nat_lt}
 use Rattle.std.proofs.lemmas.List.{length-map}
-use Rattle.avro_bytes.specs.declared.limits.TheConstants.{MOST_OUTPUT}
+use Rattle.spec_avro.specs.declared.limits.TheConstants.{MOST_OUTPUT}
 use Rattle.isa.specs.Lists.{total_length}
 use Rattle.isa.specs.State.{Blocks, Frame, Rec, Skip, SkipBlocks, Store, add, add_to_slot, append, empty_buffers, emptied, frames_size, frames_with, is_done, marked, miss, out_with, size_of, total}
 

@@ -2,23 +2,25 @@
 use Rattle.std.proofs.Common.{replicate, ◌≡◌, ◌≢◌, ℕ, zero, suc, ◌+◌, ◌-◌, ◌≤◌, Bool, true, false, cond, List, [], ◌∷◌, ◌++◌, length, take, drop, Option, Some, None, refl, ap, ◌∙◌, subst, arith, slice_get, min, length-append, length-drop}
 use Rattle.std.specs.Prelude.{nat_lt, slice_index_or, option_map}
 use Rattle.std.proofs.lemmas.List.{drop-append-le, take-append-le}
-use Rattle.avro_bytes.specs.declared.meter.Meter.{Meter}
-use Rattle.avro_bytes.specs.declared.fault.MalformedKind.TheVariants.{BadBranch, BadEnum, Trailing}
+use Rattle.spec_avro.specs.declared.meter.Meter.{Meter}
+use Rattle.spec_avro.specs.declared.malformed.MalformedKind.TheVariants.{BadBranch, BadEnum, Trailing}
 use Rattle.avro_bytes.specs.BlockDecoding.{next_item}
-use Rattle.avro_bytes.specs.Boolean.{boolean_at, boolean_byte}
-use Rattle.avro_bytes.specs.Decoding.{Decoding, Complete, Failed, Malformed, Need}
+use Rattle.avro_bytes.specs.Boolean.{boolean_at}
+use Rattle.spec_avro.specs.Boolean.{boolean_byte}
+use Rattle.avro_bytes.specs.Decoding.{Decoding, Complete, Failed}
+use Rattle.spec_avro.specs.Defect.{Malformed, Need}
 use Rattle.avro_bytes.specs.Length.{length_at}
-use Rattle.avro_bytes.specs.Number.{int_limit, long_limit}
+use Rattle.spec_avro.specs.Number.{int_limit, long_limit}
 use Rattle.avro_bytes.specs.NumberDecoding.{number_at}
 use Rattle.avro_bytes.specs.Position.{position_at}
-use Rattle.avro_bytes.specs.Shortest.{shortest}
+use Rattle.spec_avro.specs.Shortest.{shortest}
 use Rattle.avro_bytes.specs.Walk.{first_walk}
 use Rattle.avro_bytes.specs.Laws.BlocksSame.{walk_steady}
 use Rattle.avro_bytes.specs.Laws.Booleans.{boolean_steady}
 use Rattle.avro_bytes.specs.Laws.Lengths.{length_steady}
 use Rattle.avro_bytes.specs.Laws.Numbers.{number_steady}
 use Rattle.avro_bytes.specs.Laws.Positions.{position_steady}
-use Rattle.avro_bytes.specs.Outcome as outcomes
+use Rattle.spec_avro.specs.Outcome as outcomes
 use Rattle.isa.specs.declared.entry.Entry.TheVariants as entries
 use Rattle.isa.specs.declared.instr.Instr.{Instr}
 use Rattle.isa.specs.declared.instr.Instr.TheVariants as op

@@ -5,23 +5,25 @@ use Rattle.std.specs.Prelude.{nat_lt, nat_le, slice_index_or}
 use Rattle.std.specs.Str.{is_utf8}
 use Rattle.avro_bytes.specs.declared.fault.Fault.{Fault}
 use Rattle.avro_bytes.specs.declared.fault.Fault.TheVariants as fault
-use Rattle.avro_bytes.specs.declared.meter.Meter.{Meter}
-use Rattle.avro_bytes.specs.declared.limits.TheConstants.{MOST_DEPTH, MOST_UNITS}
-use Rattle.avro_bytes.specs.declared.fault.MalformedKind.TheVariants.{BadBranch, BadEnum, TooDeep, Trailing}
-use Rattle.avro_bytes.specs.Blocks.{joined}
+use Rattle.spec_avro.specs.declared.meter.Meter.{Meter}
+use Rattle.spec_avro.specs.declared.limits.TheConstants.{MOST_DEPTH, MOST_UNITS}
+use Rattle.spec_avro.specs.declared.malformed.MalformedKind.TheVariants.{BadBranch, BadEnum, TooDeep, Trailing}
+use Rattle.spec_avro.specs.Blocks.{joined}
 use Rattle.avro_bytes.specs.BlockDecoding.{next_item}
-use Rattle.avro_bytes.specs.Boolean.{boolean_at, boolean_byte}
-use Rattle.avro_bytes.specs.Decoding.{Decoding, Complete, Failed, Malformed, Need}
+use Rattle.avro_bytes.specs.Boolean.{boolean_at}
+use Rattle.spec_avro.specs.Boolean.{boolean_byte}
+use Rattle.avro_bytes.specs.Decoding.{Decoding, Complete, Failed}
+use Rattle.spec_avro.specs.Defect.{Malformed, Need}
 use Rattle.avro_bytes.specs.Length.{length_at}
 use Rattle.avro_bytes.specs.Meter.{opened_blocks, opened_record}
-use Rattle.avro_bytes.specs.Number.{int_limit, long_limit}
+use Rattle.spec_avro.specs.Number.{int_limit, long_limit}
 use Rattle.avro_bytes.specs.NumberDecoding.{number_at}
 use Rattle.avro_bytes.specs.Position.{position_at}
-use Rattle.avro_bytes.specs.Shortest.{shortest}
+use Rattle.spec_avro.specs.Shortest.{shortest}
 use Rattle.avro_bytes.specs.Walk.{Walk, first_walk}
 use Rattle.avro_bytes.specs.Laws.Meters.{was_opened}
 use Rattle.avro_bytes.specs.Laws.Walks.{item_meter, end_meter}
-use Rattle.avro_bytes.specs.Outcome as outcomes
+use Rattle.spec_avro.specs.Outcome as outcomes
 use Rattle.isa.specs.declared.end.Trap.TheVariants.{BadSlot, NoBuffer, TooManyCalls}
 use Rattle.isa.specs.declared.entry.Entry.{Entry}
 use Rattle.isa.specs.declared.entry.Entry.TheVariants as entries

@@ -3,7 +3,7 @@ use Rattle.std.proofs.Common.{refl}
 use Rattle.avro_bytes.specs.Boolean.{boolean_at}
 use Rattle.avro_bytes.specs.Length.{length_at}
 use Rattle.avro_bytes.specs.NumberDecoding.{number_at, number_front}
-use Rattle.avro_bytes.specs.Shortest as X
+use Rattle.spec_avro.specs.Shortest as X
 use Rattle.isa.specs.State.{add}
 use Rattle.isa.specs.Row.{row_of}
 use Rattle.isa.specs.Worked.{BooleanIsBad, LongIsTaken, TextIsBegun, rows}

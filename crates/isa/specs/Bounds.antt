@@ -1,8 +1,7 @@
 -- What no row passes: how much is open, how many units there are, and how many bytes are held. All of this is this
 -- project's own.
 use Rattle.std.specs.Prelude.{◌≤◌, ℕ, length}
-use Rattle.avro_bytes.specs.declared.limits.TheConstants.{MOST_DEPTH, MOST_UNITS}
-use Rattle.avro_bytes.specs.declared.limits.TheConstants.{MOST_OUTPUT}
+use Rattle.spec_avro.specs.declared.limits.TheConstants.{MOST_DEPTH, MOST_UNITS, MOST_OUTPUT}
 use Rattle.isa.specs.declared.limits.TheConstants.{MOST_CALLS}
 use Rattle.isa.specs.State.{State, total}
 

@@ -2,7 +2,7 @@
 -- tables, misses and code. This project's own.
 use Rattle.std.specs.Prelude.{ℕ, suc, Bool, true, not, ◌&&◌, List, [], ◌∷◌, length, Option, Some, None, option_map, nat_le, nat_lt, ◌==◌, if◌then◌else◌, position, Result, Ok, Err}
 use Rattle.std.specs.Option.{option_or}
-use Rattle.avro_bytes.specs.declared.mismatch.Mismatch.{Mismatch}
+use Rattle.spec_avro.specs.declared.mismatch.Mismatch.{Mismatch}
 use Rattle.isa.specs.declared.entry.Entry.{Entry}
 use Rattle.isa.specs.declared.entry.Entry.TheVariants as entries
 use Rattle.isa.specs.declared.instr.Instr.{Instr}

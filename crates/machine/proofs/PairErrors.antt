@@ -1,7 +1,7 @@
 -- What a transcoder of a pair answers for a payload is the pair's answer.
 use Rattle.std.proofs.Common.{ℕ, List, subst}
 use Rattle.std.specs.Prelude.{Err, Ok}
-use Rattle.avro_types.specs.Node.{Node}
+use Rattle.spec_avro.specs.Node.{Node}
 use Rattle.avro_bytes.specs.declared.payload.Outcome as rust
 use Rattle.resolver.specs.Outcome.{Transcodes}
 use Rattle.resolver.specs.declared.transcoding.TranscodeError.{TranscodeError}

@@ -1,7 +1,7 @@
 //! The outcome of one payload between two schemas.
 
 ghost use Rattle.std.specs.Prelude.{◌≡◌, List, Ok};
-ghost use Rattle.avro_types.specs.Node.{Node};
+ghost use Rattle.spec_avro.specs.Node.{Node};
 ghost use Rattle.machine.specs.Transcoding.{Makes, TranscodesPair, of_compiling, of_payload};
 
 use crate::transcoder::Transcoder;

@@ -2,8 +2,8 @@
 use Rattle.std.specs.Prelude.{◌≡◌, ℕ, Bool, List, length, Option, None}
 use Rattle.avro_bytes.specs.declared.fault.Fault.{Fault}
 use Rattle.avro_bytes.specs.declared.fault.Fault.TheVariants as fault
-use Rattle.avro_bytes.specs.Outcome.{Mismatched, OutputTooLarge}
-use Rattle.avro_bytes.specs.Outcome as outcomes
+use Rattle.spec_avro.specs.Outcome.{Mismatched, OutputTooLarge}
+use Rattle.spec_avro.specs.Outcome as outcomes
 use Rattle.isa.specs.Program.{Program}
 use Rattle.isa.specs.State.{Out, State}
 use Rattle.isa.specs.Table.{stop, trap, wait}

@@ -1,7 +1,7 @@
 //! The bytes around the items of one block.
 
 ghost use Rattle.std.specs.Prelude.{◌≡◌, ◌∷◌, ◌++◌, [], length, IfOk, OnOk};
-ghost use Rattle.avro_bytes.specs.Written.{block_count};
+ghost use Rattle.spec_avro.specs.Written.{block_count};
 
 use avro_bytes::put_long;
 use std::alloc::AllocError;

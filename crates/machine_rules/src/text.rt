@@ -49,7 +49,7 @@ impl Carry {
     }
 
     /// Returns what is known once the bytes up to offset `to` have passed too, where these are the last bytes up to
-    /// offset `pos`, of a content that begins at offset `from`.
+    /// offset `pos`, of a content that begins at offset `from`. `from` is read by the clauses alone.
     fn pass(self, input: &[u8], from: usize, pos: usize, to: usize) -> TextCheck
         requires begun { from ≤ pos }
         requires order { pos ≤ to }

@@ -3,8 +3,8 @@
 #![tactic(auto, using(crate::proofs::Appending::goes_on, crate::proofs::Appending::same_arena))]
 
 ghost use Rattle.std.specs.Prelude.{◌≡◌, ◌≤◌, ◌<◌, ◌+◌, ◌-◌, length, pos, [], OnOk, OnErr, Some, None, false};
-ghost use Rattle.avro_bytes.specs.declared.limits.TheConstants.{MOST_CONTENT};
-ghost use Rattle.avro_bytes.specs.Shortest.{shortest};
+ghost use Rattle.spec_avro.specs.declared.limits.TheConstants.{MOST_CONTENT};
+ghost use Rattle.spec_avro.specs.Shortest.{shortest};
 ghost use Rattle.isa.specs.declared.limits.TheConstants.{MOST_INSTRS, MOST_CHUNK};
 ghost use Rattle.isa.specs.Table.{begun, prefixed, ends_content, fixed, if_current, moved, moves, next};
 ghost use Rattle.machine_stepper.specs.Contract.{AsksOf, HasRoom, asks, move_of, OnlyAppends, Stays, Takes};
@@ -116,7 +116,8 @@ impl Machine {
         Step::Moved
     }
 
-    /// Moves a length that was read up to offset `to`, and begins the content, unless it is empty.
+    /// Moves a length that was read up to offset `to`, and begins the content, unless it is empty. `input` is read by
+    /// the clauses alone.
     fn begin(&mut self, moving: Moving, len: usize, to: usize, input: &[u8]) -> Step
         requires runs { self.old.state.end ≡ None }
         requires pc { self.old.state.pc < MOST_INSTRS }

@@ -14,7 +14,7 @@ use crate::step::Step;
 use isa::{MOST_CALLS, Trap};
 
 impl Machine {
-    /// Takes the row of a miss: marks it if it is the first.
+    /// Takes the row of a miss: marks it if it is the first. `feed` is read by the clauses alone.
     pub(crate) fn tell_miss(&mut self, miss: u32, feed: &Feed<'_>) -> Step
         requires runs { self.old.state.end ≡ None }
         requires pc { self.old.state.pc < MOST_INSTRS }
@@ -31,7 +31,8 @@ impl Machine {
         self.next(self.pos())
     }
 
-    /// Takes the row of a call, which goes on at the routine's address. A trap where there are too many calls.
+    /// Takes the row of a call, which goes on at the routine's address. A trap where there are too many calls. `feed`
+    /// is read by the clauses alone.
     pub(crate) fn call(&mut self, address: u32, feed: &Feed<'_>) -> Step
         requires pc { self.old.state.pc < MOST_INSTRS }
         requires within { self.old.state.pos ≤ length feed.now.input.now }
@@ -48,7 +49,7 @@ impl Machine {
         self.push_call(address as usize)
     }
 
-    /// Takes the row of a return from a call. A trap where no call is open.
+    /// Takes the row of a return from a call. A trap where no call is open. `feed` is read by the clauses alone.
     pub(crate) fn return_from_call(&mut self, feed: &Feed<'_>) -> Step
         requires pc { self.old.state.pc < MOST_INSTRS }
         requires within { self.old.state.pos ≤ length feed.now.input.now }
@@ -66,7 +67,7 @@ impl Machine {
         }
     }
 
-    /// Takes the row of a jump to an address.
+    /// Takes the row of a jump to an address. `feed` is read by the clauses alone.
     pub(crate) fn jump_to(&mut self, address: u32, feed: &Feed<'_>) -> Step
         requires pc { self.old.state.pc < MOST_INSTRS }
         requires within { self.old.state.pos ≤ length feed.now.input.now }

@@ -4,10 +4,11 @@
 
 ghost use Rattle.std.specs.Prelude.{◌≡◌, ◌≢◌, ◌≤◌, ◌<◌, ◌+◌, ℕ, [], ◌∷◌, ◌++◌, length, is_some, option_to_list, OnOk, OnErr, Some, None, false, true};
 ghost use Rattle.avro_bytes.specs.declared.fault.Fault.TheVariants.{NoMemory};
-ghost use Rattle.avro_bytes.specs.declared.meter.Meter.{Meter};
+ghost use Rattle.spec_avro.specs.declared.meter.Meter.{Meter};
 ghost use Rattle.isa.specs.declared.limits.TheConstants.{MOST_INSTRS};
 ghost use Rattle.isa.specs.State.{has_current, meter_of};
-ghost use Rattle.avro_bytes.specs.Shortest.{IsTight, shortest};
+ghost use Rattle.avro_bytes.specs.Shortest.{IsTight};
+ghost use Rattle.spec_avro.specs.Shortest.{shortest};
 ghost use Rattle.isa.specs.Table.{added, next, stop, trap};
 ghost use Rattle.machine_rules.specs.declared.ending.Verdict.TheVariants.{Done};
 ghost use Rattle.machine_rules.specs.Ending.{refused, told};

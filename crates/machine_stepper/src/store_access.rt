@@ -3,7 +3,7 @@
 #![tactic(auto, using(crate::proofs::Appending::goes_on, crate::proofs::Appending::no_more, crate::proofs::Appending::stays_open, crate::proofs::Appending::same_arena))]
 
 ghost use Rattle.std.specs.Prelude.{◌≡◌, ◌≢◌, ◌≤◌, ◌<◌, ◌+◌, [], length, is_some, IfOk, Some, true};
-ghost use Rattle.avro_bytes.specs.declared.limits.TheConstants.{MOST_DEPTH};
+ghost use Rattle.spec_avro.specs.declared.limits.TheConstants.{MOST_DEPTH};
 ghost use Rattle.isa.specs.declared.limits.TheConstants.{MOST_INSTRS};
 ghost use Rattle.isa.specs.Table.{missed, next, pushed, with_frames};
 ghost use Rattle.machine_store.specs.Frames.{FewSlots, HasSlot, frame_of, has_current_below, is_skip, is_skipped, skip_walk_of, slots_of, walk_of};

@@ -2,10 +2,10 @@
 use Rattle.std.proofs.Common.{◌≡◌, ◌≢◌, ◌≤◌, ◌<◌, ℕ, zero, suc, ◌+◌, ◌-◌, Bool, true, false, List, [], ◌∷◌, ◌++◌, length, map, take, drop, get_or, Option, Some, refl, sym, ap, ◌∙◌, subst, arith, length-append, pos}
 use Rattle.std.specs.Prelude.{is_some}
 use Rattle.std.proofs.lemmas.List.{append-nil, drop_at, length-drop, length-map, length-set, length-take, take-map, take_at}
-use Rattle.avro_bytes.specs.Blocks.{joined}
-use Rattle.avro_bytes.specs.Shortest.{shortest, shortest_groups}
-use Rattle.avro_bytes.specs.Written.{block_count}
-use Rattle.avro_bytes.specs.declared.limits.TheConstants.{MOST_OUTPUT}
+use Rattle.spec_avro.specs.Blocks.{joined}
+use Rattle.spec_avro.specs.Shortest.{shortest, shortest_groups}
+use Rattle.spec_avro.specs.Written.{block_count}
+use Rattle.spec_avro.specs.declared.limits.TheConstants.{MOST_OUTPUT}
 use Rattle.isa.specs.Lists.{total_length}
 use Rattle.isa.specs.State as state
 use Rattle.isa.specs.State.{Store, add, append, empty_buffers, emptied, frames_size, is_done, total}

@@ -3,8 +3,7 @@ use Rattle.std.proofs.Common.{◌≡◌, ◌≤◌, ◌<◌, ℕ, ◌+◌, ◌-�
 use Rattle.std.specs.Prelude.{Result, Ok, Err, OnErr, OnOk}
 use Rattle.std.specs.List.{AllByRecursion}
 use Rattle.std.proofs.lemmas.List.{append-nil, drop_at, get_or_at, length-map, length-set, length-replicate, take_at}
-use Rattle.avro_bytes.specs.declared.limits.TheConstants.{MOST_DEPTH}
-use Rattle.avro_bytes.specs.declared.limits.TheConstants.{MOST_OUTPUT}
+use Rattle.spec_avro.specs.declared.limits.TheConstants.{MOST_DEPTH, MOST_OUTPUT}
 use Rattle.isa.specs.Lists.{total_length}
 use Rattle.isa.specs.State as state
 use Rattle.isa.specs.State.{Store, add, append, emptied, is_done, marked, miss, total}

@@ -1,7 +1,7 @@
 //! Machine.
 //!
-//! What a run holds: open frames, and buffers whose bytes are in one arena, as lists of segments that are joined without
-//! being copied.
+//! What a run holds: open frames, and buffers whose bytes are in one arena, as lists of segments that are joined
+//! without being copied.
 #![tactic(auto)]
 
 mod buffers;

@@ -1,8 +1,7 @@
 //! The frames that are open, and the buffers that they add to.
 
 ghost use Rattle.std.specs.Prelude.{◌≡◌, ◌+◌, ◌-◌, ◌<◌, ◌≤◌, true, false, [], ◌∷◌, length, is_some, reverse, vec_len, Some, None, OnErr, OnOk, OnSome, IfNone, IfOk, IfSome};
-ghost use Rattle.avro_bytes.specs.declared.limits.TheConstants.{MOST_DEPTH};
-ghost use Rattle.avro_bytes.specs.declared.limits.TheConstants.{MOST_OUTPUT};
+ghost use Rattle.spec_avro.specs.declared.limits.TheConstants.{MOST_DEPTH, MOST_OUTPUT};
 ghost use Rattle.isa.specs.State.{add, emptied, has_current, is_done, total};
 ghost use Rattle.machine_store.specs.Buffers.{is_front};
 ghost use Rattle.machine_store.specs.Frames.{FewSlots, HasSlot, HoldsBuffers, first_of, frame_of, has_current_below, is_skip, is_skipped, items_of, newest_place, opened_at, place_of, skip_walk_of, slots_of, slots_opened, walk_of};

@@ -5,8 +5,7 @@ ghost use Rattle.httparse.specs.Spans.{IsWithin};
 ghost use Rattle.http1.specs.Conn.{unread_size};
 ghost use Rattle.http1.specs.Server.{has_codings, new_server, reading};
 ghost use Rattle.http1.specs.declared.conn.Event.TheVariants as events;
-ghost use Rattle.persistent_exchange.specs.Scouting.{Adds, AwaitsContent, Begins, Finds, IsTaken, IsWhyNoHead, IsWhyNoPiece};
-ghost use Rattle.persistent_exchange.specs.Scouting.{IsWhyNone, Turns};
+ghost use Rattle.persistent_exchange.specs.Scouting.{Adds, AwaitsContent, Begins, Finds, IsTaken, IsWhyNoHead, IsWhyNoPiece, IsWhyNone, Turns};
 ghost use Rattle.persistent_exchange.specs.declared.scout.Refusal.TheVariants.{NoMemory};
 
 use http_server::MAX_HEADERS;

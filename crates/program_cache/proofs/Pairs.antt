@@ -1,7 +1,6 @@
 -- What a pair was compiled to answers for its schemas.
-use Rattle.std.proofs.Common.{◌≡◌, Option, Some, None, IfSome, subst}
+use Rattle.std.proofs.Common.{◌≡◌, Option, Some, None, IfSome, subst, Bor}
 use Rattle.std.specs.Prelude.{Result}
-use Rattle.std.proofs.Common.{Bor}
 use Rattle.avro_schema.specs.Schema.{Declaration}
 use Rattle.machine.specs.ProgramPair.{Pair}
 use Rattle.schema_registry.specs.Receipt.{Shown}

@@ -5,7 +5,7 @@ use Rattle.std.specs.Prelude.{Option, if◌then◌else◌}
 use Rattle.std.specs.BTreeMap.{BTreeMap, get}
 use Rattle.std.specs.Ordering.{is_eq}
 use Rattle.std.specs.Str.{bytes_eq}
-use Rattle.avro_types.specs.Node.{Node}
+use Rattle.spec_avro.specs.Node.{Node}
 use Rattle.program_definition.specs.Numbering.{adding, has, number}
 use Rattle.program_definition.proofs.Growing.{number_more}
 use Rattle.program_definition.proofs.Numbers.{added, bytes_refl, has_more}

@@ -5,9 +5,9 @@ use Rattle.std.specs.List.{position_from}
 use Rattle.std.proofs.lemmas.Bool.{eqb-true}
 use Rattle.std.proofs.lemmas.Bool.Decides.{nat_tests}
 use Rattle.std.proofs.lemmas.List.Folds.{list_any_more}
-use Rattle.resolver.specs.Matching.{first_member}
-use Rattle.resolver.specs.Options.{or_else}
-use Rattle.resolver.specs.declared.place.Destination.TheVariants.{IntoMember, Nowhere}
+use Rattle.spec_avro.specs.Matching.{first_member}
+use Rattle.spec_avro.specs.Options.{or_else}
+use Rattle.spec_avro.specs.declared.place.Destination.TheVariants.{IntoMember, Nowhere}
 use Rattle.program_compiler.specs.Members.{least}
 use Rattle.program_compiler.specs.NamedTypes.{is_among}
 

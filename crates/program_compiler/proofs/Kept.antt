@@ -3,7 +3,7 @@ use Rattle.std.proofs.Common.{◌≡◌, ℕ, Bool, true, false, cond, List, [],
 use Rattle.std.specs.Prelude.{slice_get}
 use Rattle.std.specs.BTreeMap.{BTreeMap, get}
 use Rattle.std.specs.Ordering.{is_eq, nat_cmp}
-use Rattle.avro_types.specs.Node.{Node, UnionNode}
+use Rattle.spec_avro.specs.Node.{Node, UnionNode}
 use Rattle.avro_types.specs.Laws.Booleans.{none_some}
 use Rattle.program_compiler.specs.Known.{AreLacking, ArePlaced, lacking_node}
 use Rattle.program_compiler.specs.Members.{ArePositionsOf}

@@ -4,11 +4,11 @@ use Rattle.std.specs.Prelude.{MatchOption}
 use Rattle.program_compiler.specs.declared.error.CompileError.{CompileError}
 use Rattle.program_compiler.specs.declared.error.CompileError.TheVariants.{ProgramTooLarge, NoMemory}
 use Rattle.std.specs.List.{AllByRecursion}
-use Rattle.avro_types.specs.Node.{Node}
+use Rattle.spec_avro.specs.Node.{Node}
 use Rattle.isa.specs.declared.instr.Instr.{Instr}
 use Rattle.isa.specs.Range.{InstrIsInRange, sizes_of}
-use Rattle.avro_bytes.specs.declared.limits.TheConstants.{MOST_OUTPUT}
-use Rattle.avro_bytes.specs.declared.mismatch.Mismatch.{Mismatch}
+use Rattle.spec_avro.specs.declared.limits.TheConstants.{MOST_OUTPUT}
+use Rattle.spec_avro.specs.declared.mismatch.Mismatch.{Mismatch}
 use Rattle.program_definition.specs.Statements.{Section}
 use Rattle.program_definition.specs.Numbering.{code_from, constants_of, jumps_of, linked, maps_of, named_in}
 use Rattle.program_definition.proofs.Numbering.{all_front, all_back}

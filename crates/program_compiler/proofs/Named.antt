@@ -3,13 +3,13 @@ use Rattle.std.proofs.Common.{◌≡◌, ℕ, suc, ◌<◌, Bool, true, false, e
 use Rattle.std.specs.Prelude.{slice_get}
 use Rattle.std.specs.List.{AllByRecursion}
 use Rattle.std.proofs.lemmas.Option.{slice_get-map, slice_get_within}
-use Rattle.avro_types.specs.FullNames.{unqualified}
-use Rattle.avro_types.specs.Node.{Node, Names, NullNode, BooleanNode, IntNode, LongNode, BytesNode, TextNode, FixedNode, EnumNode, ArrayNode, MapNode, UnionNode, RecordNode}
-use Rattle.avro_types.specs.Symbols.{is_used}
-use Rattle.avro_types.specs.WellFormed.{full_name_of, is_union}
+use Rattle.spec_avro.specs.FullNames.{unqualified}
+use Rattle.spec_avro.specs.Node.{Node, Names, NullNode, BooleanNode, IntNode, LongNode, BytesNode, TextNode, FixedNode, EnumNode, ArrayNode, MapNode, UnionNode, RecordNode}
+use Rattle.spec_avro.specs.Symbols.{is_used}
+use Rattle.spec_avro.specs.WellFormed.{full_name_of, is_union}
 use Rattle.avro_types.specs.Laws.Booleans.{no_true, none_some, or_true, same_number, some_inside}
-use Rattle.resolver.specs.Matches.{IsPrimitive, Matches, NamesMatch, alias, arrays, bytes_to_string, enums, fixed, int_to_long, maps, primitive, readers_union, records, string_to_bytes, unqualified_names as by_unqualified_names, writers_union}
-use Rattle.resolver.specs.Matching.{first_member, matches}
+use Rattle.spec_avro.specs.Matches.{IsPrimitive, Matches, NamesMatch, alias, arrays, bytes_to_string, enums, fixed, int_to_long, maps, primitive, readers_union, records, string_to_bytes, unqualified_names as by_unqualified_names, writers_union}
+use Rattle.spec_avro.specs.Matching.{first_member, matches}
 use Rattle.resolver.proofs.Holding.{used_there}
 use Rattle.program_compiler.specs.NamedTypes.{is_among, last_parts, unqualified_names}
 use Rattle.program_compiler.proofs.FirstMember.{same_first}

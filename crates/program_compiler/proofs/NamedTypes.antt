@@ -6,9 +6,9 @@ use Rattle.std.proofs.lemmas.Bool.{eqb-true}
 use Rattle.std.proofs.lemmas.Bool.Decides.{nat_tests}
 use Rattle.std.proofs.lemmas.List.Folds.{list_any_more}
 use Rattle.std.proofs.lemmas.Option.{get_or_from_slice_get, slice_get-map, slice_get_within}
-use Rattle.avro_types.specs.FullNames.{unqualified}
-use Rattle.avro_types.specs.Node.{Node, Names}
-use Rattle.avro_types.specs.Symbols.{is_used}
+use Rattle.spec_avro.specs.FullNames.{unqualified}
+use Rattle.spec_avro.specs.Node.{Node, Names}
+use Rattle.spec_avro.specs.Symbols.{is_used}
 use Rattle.avro_types.specs.Laws.Booleans.{or_false}
 use Rattle.program_compiler.specs.NamedTypes.{last_parts, unqualified_names}
 

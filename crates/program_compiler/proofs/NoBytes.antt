@@ -2,12 +2,13 @@
 use Rattle.std.proofs.Common.{◌≡◌, ℕ, suc, ◌<◌, Bool, true, false, List, ◌++◌, length, drop, get_or, pos, refl, sym, ap, ◌∙◌, arith}
 use Rattle.std.specs.Prelude.{◌==◌}
 use Rattle.std.proofs.lemmas.List.{length-append}
-use Rattle.avro_bytes.specs.Shortest.{shortest}
-use Rattle.avro_bytes.specs.Written.{after_length}
+use Rattle.spec_avro.specs.Shortest.{shortest}
+use Rattle.spec_avro.specs.Written.{after_length}
 use Rattle.avro_types.specs.declared.datum.Datum as rust
-use Rattle.avro_types.specs.Datum.{Datum, data_of, datum_of, NullDatum, BooleanDatum, IntDatum, LongDatum, BytesDatum, TextDatum, FixedDatum, EnumDatum, ArrayDatum, MapDatum, UnionDatum, RecordDatum}
+use Rattle.spec_avro.specs.Datum.{Datum, NullDatum, BooleanDatum, IntDatum, LongDatum, BytesDatum, TextDatum, FixedDatum, EnumDatum, ArrayDatum, MapDatum, UnionDatum, RecordDatum}
+use Rattle.avro_types.specs.Datum.{data_of, datum_of}
 use Rattle.avro_datum.proofs.Written.{written_from}
-use Rattle.avro_datum.specs.Writing.{written, written_data}
+use Rattle.spec_avro.specs.Writing.{written, written_data}
 use Rattle.program_definition.proofs.GoodWrites.{some_shortest}
 
 some_front : (a b : List ℕ) → 0 < length a → 0 < length (a ++ b)

@@ -4,8 +4,8 @@ use Rattle.std.specs.Prelude.{not, if◌then◌else◌}
 use Rattle.std.specs.List.{AllByRecursion}
 use Rattle.std.specs.BTreeSet.{BTreeSet, contains}
 use Rattle.std.specs.Ordering.{is_eq}
-use Rattle.avro_bytes.specs.declared.mismatch.Mismatch.{Mismatch}
-use Rattle.avro_types.specs.Node.{Node}
+use Rattle.spec_avro.specs.declared.mismatch.Mismatch.{Mismatch}
+use Rattle.spec_avro.specs.Node.{Node}
 use Rattle.program_definition.specs.Numbering.{adding, has, lacked, same_miss}
 use Rattle.program_definition.proofs.Numbers.{added, all_more, miss_refl}
 use Rattle.program_ir.specs.Statements.{targets_of}

@@ -7,20 +7,22 @@ use Rattle.avro_types.specs.declared.kind.Field.{Field}
 use Rattle.avro_types.specs.declared.kind.Kind.{Kind}
 use Rattle.avro_types.specs.declared.kind.Kind.TheVariants as kinds
 use Rattle.avro_types.specs.declared.datum.Datum as rust
-use Rattle.avro_types.specs.declared.limits.TheConstants.{MOST_FIELDS}
+use Rattle.spec_avro.specs.declared.limits.TheConstants.{MOST_FIELDS}
 use Rattle.avro_types.specs.Datum.{datum_of}
-use Rattle.avro_types.specs.Node.{Node, Names, FieldNode, RecordNode, field_of, fields_of, node_of}
-use Rattle.avro_types.specs.WellFormed.{FieldsBelow, IsWellFormed}
-use Rattle.avro_datum.specs.Writing.{written}
+use Rattle.spec_avro.specs.Node.{Node, Names, FieldNode, RecordNode}
+use Rattle.avro_types.specs.Node.{field_of, fields_of, node_of}
+use Rattle.spec_avro.specs.WellFormed.{FieldsBelow, IsWellFormed}
+use Rattle.spec_avro.specs.Writing.{written}
 use Rattle.isa.specs.declared.instr.Instr.TheVariants as op
-use Rattle.resolver.specs.declared.pairing.Partner.{Partner}
-use Rattle.resolver.specs.declared.pairing.Route.{Route}
-use Rattle.resolver.specs.Options.{given}
-use Rattle.resolver.specs.Partners.{AreRoutes, IsRoute, has_partner, partner_at, partners, routes, routes_to}
+use Rattle.spec_avro.specs.declared.place.Partner.{Partner}
+use Rattle.spec_avro.specs.declared.place.Route.{Route}
+use Rattle.spec_avro.specs.Options.{given}
+use Rattle.resolver.specs.Partners.{AreRoutes, IsRoute}
+use Rattle.spec_avro.specs.Partners.{has_partner, partner_at, partners, routes, routes_to}
 use Rattle.program_definition.specs.Statements.{Statement, Lost, Op, Put}
 use Rattle.program_definition.specs.Skipping.{K, skip_routine}
 use Rattle.program_definition.specs.Writing.{X, default_bytes, defaults_code, field_code, fields_code, put_in}
-use Rattle.resolver.specs.Resolution.{field_lists}
+use Rattle.spec_avro.specs.Resolution.{field_lists}
 use Rattle.program_ir.specs.declared.statements.Constant.TheVariants as constants
 use Rattle.program_ir.proofs.Appended.{two}
 use Rattle.program_ir.specs.Statements.{HasSlot, bytes_of, default_of, fields_of_record, slot_statements}

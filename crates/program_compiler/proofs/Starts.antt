@@ -1,7 +1,7 @@
 -- Where the sections begin, one after the other.
 use Rattle.std.proofs.Common.{◌≡◌, ℕ, zero, suc, ◌+◌, Bool, true, false, List, [], ◌∷◌, ◌++◌, length, take, Some, refl, sym, ap, ◌∙◌, arith, length-append, append_assoc}
 use Rattle.std.specs.Prelude.{slice_get, slice_index_or, if◌then◌else◌}
-use Rattle.resolver.specs.Options.{given}
+use Rattle.spec_avro.specs.Options.{given}
 use Rattle.program_definition.specs.Code.{statements_of, start_in}
 use Rattle.program_definition.specs.Statements.{Statement, Section}
 use Rattle.program_definition.specs.Numbering.{adding, calls_of, named_in, same_section}

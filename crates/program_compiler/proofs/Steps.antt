@@ -1,7 +1,7 @@
 -- Statements after statements, by what a node is.
 use Rattle.std.proofs.Common.{◌≡◌, ℕ, zero, suc, ◌-◌, List, [], ◌∷◌, ◌++◌, Some, refl, sym, ap, ◌∙◌, arith, append_assoc}
 use Rattle.std.specs.Prelude.{slice_get}
-use Rattle.avro_types.specs.Node.{Node}
+use Rattle.spec_avro.specs.Node.{Node}
 use Rattle.isa.specs.declared.instr.Instr.{Instr}
 use Rattle.program_definition.specs.Statements.{Statement, Lost, looped}
 use Rattle.program_definition.specs.Skipping.{skip_node, skip_within}

@@ -1,7 +1,7 @@
 -- What statements name, with that of one statement more.
 use Rattle.std.proofs.Common.{◌≡◌, ℕ, suc, ◌+◌, ◌<◌, drop, get_or, Bool, List, ◌++◌, length, sym, ap, ◌∙◌, arith}
 use Rattle.std.proofs.Math.Seq.{drop-cons}
-use Rattle.avro_types.specs.Node.{Node}
+use Rattle.spec_avro.specs.Node.{Node}
 use Rattle.program_definition.specs.Statements.{Statement}
 use Rattle.program_definition.specs.Numbering.{adding, named_in}
 use Rattle.program_ir.specs.declared.statements.Statement as rust

@@ -4,15 +4,16 @@ use Rattle.std.specs.Prelude.{option_map, slice_get}
 use Rattle.std.specs.Global.{Vec}
 use Rattle.avro_types.specs.declared.kind.Kind.{Kind}
 use Rattle.avro_types.specs.declared.kind.Kind.TheVariants as kinds
-use Rattle.avro_types.specs.Node.{Node, FieldNode, node_of}
-use Rattle.resolver.specs.declared.place.Destination.{Destination}
-use Rattle.resolver.specs.Matching.{place}
-use Rattle.resolver.specs.Options.{given}
-use Rattle.avro_bytes.specs.declared.mismatch.MismatchKind.TheVariants as misses
+use Rattle.spec_avro.specs.Node.{Node, FieldNode}
+use Rattle.avro_types.specs.Node.{node_of}
+use Rattle.spec_avro.specs.declared.place.Destination.{Destination}
+use Rattle.spec_avro.specs.Matching.{place}
+use Rattle.spec_avro.specs.Options.{given}
+use Rattle.spec_avro.specs.declared.mismatch.MismatchKind.TheVariants as misses
 use Rattle.program_definition.specs.Statements.{Statement, Call, Lost, Miss, Write, miss}
 use Rattle.program_definition.specs.Skipping.{K}
 use Rattle.program_definition.specs.Writing.{placed_node, record_code, straight_node, write_node}
-use Rattle.resolver.specs.Resolution.{lacking}
+use Rattle.spec_avro.specs.Resolution.{lacking}
 
 pub straight_more : (W R : List Node) (F : ℕ → ℕ → List Statement) (w r : ℕ) (reader : Option Node) (node : Node) (old new code : List Statement) → slice_get W w ≡ Some node → straight_node W R F w r (Some node) reader ≡ code → new ≡ old ++ code → new ≡ old ++ straight_node W R F w r (slice_get W w) reader
 straight_more W R F w r reader node old new code at is h = h ∙ ap (λ l. old ++ l) (sym is) ∙ ap (λ x. old ++ straight_node W R F w r x reader) (sym at)

@@ -1,6 +1,6 @@
 -- What compiling a pair of schemas answers. This project's own.
 use Rattle.std.specs.Prelude.{◌≡◌, List, Some, None, Result, Ok, Err}
-use Rattle.avro_types.specs.Node.{Node}
+use Rattle.spec_avro.specs.Node.{Node}
 use Rattle.isa.specs.Program.{Program}
 use Rattle.program_definition.specs.Code.{code_of}
 use Rattle.program_compiler.specs.declared.error.CompileError.{CompileError}

@@ -1,8 +1,8 @@
 -- What reads a field of the writer's, after its slot. This project's own.
 use Rattle.std.specs.Prelude.{List}
-use Rattle.avro_types.specs.Node.{Node}
-use Rattle.resolver.specs.declared.pairing.Route.{Route}
-use Rattle.resolver.specs.Options.{given}
+use Rattle.spec_avro.specs.Node.{Node}
+use Rattle.spec_avro.specs.declared.place.Route.{Route}
+use Rattle.spec_avro.specs.Options.{given}
 use Rattle.program_definition.specs.Statements.{Statement}
 use Rattle.program_definition.specs.Skipping.{K}
 use Rattle.program_definition.specs.Writing.{X}

@@ -2,9 +2,9 @@
 use Rattle.std.specs.Prelude.{◌≡◌, ℕ, List, Option, Some, None, IfSome, option_map, slice_get}
 use Rattle.std.specs.BTreeMap.{BTreeMap, get}
 use Rattle.std.specs.Ordering.{nat_cmp}
-use Rattle.avro_types.specs.Node.{Node, UnionNode}
-use Rattle.resolver.specs.Options.{given}
-use Rattle.resolver.specs.Resolution.{field_lists, lacking}
+use Rattle.spec_avro.specs.Node.{Node, UnionNode}
+use Rattle.spec_avro.specs.Options.{given}
+use Rattle.spec_avro.specs.Resolution.{field_lists, lacking}
 use Rattle.program_compiler.specs.Members.{ArePositionsOf}
 use Rattle.program_compiler.specs.NamedTypes.{AreTypesOf}
 use Rattle.program_ir.specs.Sections.{pair_cmp}

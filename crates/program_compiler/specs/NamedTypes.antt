@@ -3,10 +3,10 @@ use Rattle.std.specs.Prelude.{◌≡◌, ℕ, ◌==◌, List, [], ◌∷◌, map
 use Rattle.std.specs.BTreeMap.{BTreeMap, get_by_text}
 use Rattle.std.specs.Global.{Vec}
 use Rattle.std.specs.List.{list_any}
-use Rattle.avro_types.specs.FullNames.{unqualified}
-use Rattle.avro_types.specs.Node.{Node, Names, FixedNode, EnumNode, RecordNode}
-use Rattle.avro_types.specs.Symbols.{is_used}
-use Rattle.resolver.specs.Options.{given}
+use Rattle.spec_avro.specs.FullNames.{unqualified}
+use Rattle.spec_avro.specs.Node.{Node, Names, FixedNode, EnumNode, RecordNode}
+use Rattle.spec_avro.specs.Symbols.{is_used}
+use Rattle.spec_avro.specs.Options.{given}
 use Rattle.program_compiler.specs.declared.named_types.NamedTypes.{NamedTypes}
 
 -- the last parts of the full name and of the aliases

@@ -4,8 +4,8 @@ use Rattle.std.specs.BTreeMap.{BTreeMap, get}
 use Rattle.std.specs.BTreeSet.{BTreeSet, contains}
 use Rattle.std.specs.List.{AllByRecursion}
 use Rattle.std.specs.Str.{bytes_eq}
-use Rattle.avro_bytes.specs.declared.mismatch.Mismatch.{Mismatch}
-use Rattle.avro_types.specs.Node.{Node}
+use Rattle.spec_avro.specs.declared.mismatch.Mismatch.{Mismatch}
+use Rattle.spec_avro.specs.Node.{Node}
 use Rattle.isa.specs.declared.entry.Entry.{Entry}
 use Rattle.program_definition.specs.Numbering.{entry_of, has, lacked, same_miss}
 use Rattle.program_ir.specs.Tables.{found}

@@ -1,7 +1,7 @@
 -- What the walk over the sections of a pair of schemas leaves. All of this is this project's own.
 use Rattle.std.specs.Prelude.{◌≡◌, ℕ, List, length, None, Result, Ok, Err, slice_index_or}
-use Rattle.avro_types.specs.Node.{Node}
-use Rattle.resolver.specs.Options.{given}
+use Rattle.spec_avro.specs.Node.{Node}
+use Rattle.spec_avro.specs.Options.{given}
 use Rattle.program_definition.specs.Code.{checked, code_of, start_in}
 use Rattle.program_definition.specs.Statements.{Section}
 use Rattle.program_definition.specs.Numbering.{numbered}

@@ -2,13 +2,13 @@
 
 ghost use Rattle.std.specs.Prelude.{◌≡◌, ◌==◌, length};
 ghost use Rattle.avro_types.specs.Datum.{data_of, datum_of};
-ghost use Rattle.avro_datum.specs.Writing.{written, written_data};
+ghost use Rattle.spec_avro.specs.Writing.{written, written_data};
 
 use avro_types::Datum;
 
 /// Returns whether a datum is written as no bytes. No byte is looked at after the first.
 #[cycle(blank)]
-#[tactic(auto, using(avro_datum::proofs::Written::record_written), unfolding(avro_datum::specs::Writing::written))]
+#[tactic(auto, using(avro_datum::proofs::Written::record_written), unfolding(spec_avro::specs::Writing::written))]
 pub(crate) fn is_blank(datum: &Datum) -> bool
     ensures { result ≡ (length (written (datum_of datum.now)) == 0) }
 {
@@ -30,7 +30,7 @@ pub(crate) fn is_blank(datum: &Datum) -> bool
 
 /// Returns whether data are all written as no bytes.
 #[cycle(blank)]
-#[tactic(auto, using(crate::proofs::NoBytes::blank_here), unfolding(avro_datum::specs::Writing::written))]
+#[tactic(auto, using(crate::proofs::NoBytes::blank_here), unfolding(spec_avro::specs::Writing::written))]
 fn are_blank(each: &[Datum]) -> bool
     ensures { result ≡ (length (written_data (data_of each.now)) == 0) }
 {

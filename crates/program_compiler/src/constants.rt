@@ -1,16 +1,15 @@
 //! The constants of a program, as bytes.
 
 ghost use Rattle.std.specs.Prelude.{◌≡◌, ◌<◌, ◌∷◌, [], List, None, length, slice_get, IfOk, IfSome, MatchOption};
-ghost use Rattle.avro_datum.specs.Writing.{written};
+ghost use Rattle.spec_avro.specs.Writing.{written};
 ghost use Rattle.avro_types.specs.Datum.{datum_of};
-ghost use Rattle.avro_types.specs.Node.{Node};
-ghost use Rattle.avro_bytes.specs.declared.limits.TheConstants.{MOST_OUTPUT};
+ghost use Rattle.spec_avro.specs.Node.{Node};
+ghost use Rattle.spec_avro.specs.declared.limits.TheConstants.{MOST_OUTPUT};
 ghost use Rattle.program_definition.specs.Numbering.{constants_of, named_in};
 ghost use Rattle.program_compiler.specs.Parts.{Notes};
 ghost use Rattle.program_compiler.specs.Tables.{AreDefaults};
 ghost use Rattle.program_ir.specs.declared.statements.Constant.TheVariants.{Default};
-ghost use Rattle.program_ir.specs.Statements.{default_of, fields_of_record, statement_of, statements_in};
-ghost use Rattle.program_ir.specs.Statements.{bytes_of as bytes_of_constant};
+ghost use Rattle.program_ir.specs.Statements.{default_of, fields_of_record, statement_of, statements_in, bytes_of as bytes_of_constant};
 
 use avro_bytes::put_long;
 use avro_datum::{WriteError, write};

@@ -1,9 +1,10 @@
 //! What is kept of nodes that have met, so that each pair is looked at once.
 
 ghost use Rattle.std.specs.Prelude.{◌≡◌, ◌<◌, List, Some, length, slice_get, IfOk};
-ghost use Rattle.avro_types.specs.Node.{Node, UnionNode};
-ghost use Rattle.avro_types.specs.WellFormed.{full_name_of};
-ghost use Rattle.resolver.specs.Matching.{IsNodeOf, place};
+ghost use Rattle.spec_avro.specs.Node.{Node, UnionNode};
+ghost use Rattle.spec_avro.specs.WellFormed.{full_name_of};
+ghost use Rattle.resolver.specs.Matching.{IsNodeOf};
+ghost use Rattle.spec_avro.specs.Matching.{place};
 ghost use Rattle.program_compiler.specs.Known.{AreKnown, lacking_node};
 
 use crate::members::{name_of, positions_of};

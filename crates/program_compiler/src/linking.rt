@@ -2,16 +2,14 @@
 
 ghost use Rattle.std.specs.Prelude.{◌≡◌, ◌+◌, ◌<◌, ◌≤◌, ◌∷◌, [], ℕ, List, length, IfOk, MatchOption};
 ghost use Rattle.std.specs.Str.{bytes_eq};
-ghost use Rattle.avro_types.specs.Node.{Node};
-ghost use Rattle.avro_bytes.specs.declared.limits.TheConstants.{MOST_OUTPUT};
+ghost use Rattle.spec_avro.specs.Node.{Node};
+ghost use Rattle.spec_avro.specs.declared.limits.TheConstants.{MOST_OUTPUT};
 ghost use Rattle.isa.specs.declared.instr.Instr.TheVariants as op;
-ghost use Rattle.program_definition.specs.Numbering.{code_from, jumps_of, maps_of, number};
-ghost use Rattle.program_definition.specs.Numbering.{linked as instr_of};
+ghost use Rattle.program_definition.specs.Numbering.{code_from, jumps_of, maps_of, number, linked as instr_of};
 ghost use Rattle.program_compiler.specs.Linking.{instr_with};
 ghost use Rattle.program_compiler.specs.Tables.{AreDefaults};
 ghost use Rattle.program_compiler.specs.Parts.{Links, LinksAll, LinksTo, Narrows};
-ghost use Rattle.program_ir.specs.Statements.{statement_of, statements_in};
-ghost use Rattle.program_ir.specs.Statements.{bytes_of as bytes_of_constant};
+ghost use Rattle.program_ir.specs.Statements.{statement_of, statements_in, bytes_of as bytes_of_constant};
 ghost use Rattle.program_compiler.specs.Walking.{start_at};
 
 use crate::addresses::{ahead, operand};

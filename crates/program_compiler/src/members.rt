@@ -4,8 +4,9 @@ ghost use Rattle.std.specs.Prelude.{◌≡◌, ◌<◌, ◌≤◌, ◌&&◌, Non
 ghost use Rattle.std.specs.BTreeMap.{get};
 ghost use Rattle.std.specs.List.{AllByRecursion};
 ghost use Rattle.std.specs.Ordering.{nat_cmp};
-ghost use Rattle.avro_types.specs.WellFormed.{full_name_of};
-ghost use Rattle.resolver.specs.Matching.{IsNodeOf, first_member, matches};
+ghost use Rattle.spec_avro.specs.WellFormed.{full_name_of};
+ghost use Rattle.resolver.specs.Matching.{IsNodeOf};
+ghost use Rattle.spec_avro.specs.Matching.{first_member, matches};
 ghost use Rattle.program_compiler.specs.Members.{ArePositionsOf, least};
 ghost use Rattle.program_compiler.specs.NamedTypes.{is_among};
 

@@ -3,7 +3,7 @@
 ghost use Rattle.std.specs.Prelude.{◌≡◌, ◌==◌, ◌&&◌, ◌||◌, IfOk, OnOk, ℕ, List, Some};
 ghost use Rattle.std.specs.Str.{bytes_eq};
 ghost use Rattle.avro_types.specs.Node.{names_of, node_of};
-ghost use Rattle.avro_types.specs.Symbols.{is_used};
+ghost use Rattle.spec_avro.specs.Symbols.{is_used};
 ghost use Rattle.program_compiler.specs.NamedTypes.{AreTypesOf, is_among, last_parts, nodes_under, stands_under, unqualified_names};
 
 use avro_types::{Aliases, Kind, Name, Nodes};

@@ -1,16 +1,17 @@
 //! The routines of records: their fields and defaults.
 
 ghost use Rattle.std.specs.Prelude.{◌≡◌, ◌++◌, ◌∷◌, ◌<◌, ◌≤◌, ℕ, List, [], Some, false, length, slice_get, slice_index_or, IfOk, OnOk};
-ghost use Rattle.avro_types.specs.Node.{Node, field_of, fields_of};
-ghost use Rattle.avro_types.specs.WellFormed.{FieldsBelow};
-ghost use Rattle.resolver.specs.Options.{given};
+ghost use Rattle.spec_avro.specs.Node.{Node};
+ghost use Rattle.avro_types.specs.Node.{field_of, fields_of};
+ghost use Rattle.spec_avro.specs.WellFormed.{FieldsBelow};
+ghost use Rattle.spec_avro.specs.Options.{given};
 ghost use Rattle.resolver.specs.Partners.{AreRoutes, IsRoute};
-ghost use Rattle.resolver.specs.Partners.{has_partner as has_partner_of};
-ghost use Rattle.resolver.specs.declared.pairing.Route.{Route};
+ghost use Rattle.spec_avro.specs.Partners.{has_partner as has_partner_of};
+ghost use Rattle.spec_avro.specs.declared.place.Route.{Route};
 ghost use Rattle.program_definition.specs.Statements.{Lost};
 ghost use Rattle.program_definition.specs.Skipping.{skip_fields, skip_routine};
 ghost use Rattle.program_definition.specs.Writing.{default_bytes, defaults_code, fields_code, put_in, section, write_routine};
-ghost use Rattle.resolver.specs.Resolution.{field_lists};
+ghost use Rattle.spec_avro.specs.Resolution.{field_lists};
 ghost use Rattle.program_compiler.specs.Fields.{read_code};
 ghost use Rattle.program_compiler.specs.Known.{AreKnown};
 ghost use Rattle.program_ir.specs.Statements.{fields_of_record, statements_in, routine_statements, section_of};

@@ -2,7 +2,7 @@
 use Rattle.std.proofs.Common.{replicate, ◌≡◌, ℕ, zero, suc, ◌+◌, ◌<◌, true, List, [], ◌∷◌, ◌++◌, length, map, Some, None, refl, ap, ◌∙◌, arith, append_assoc, length-append, append-nil}
 use Rattle.std.specs.Prelude.{nat_lt}
 use Rattle.std.proofs.lemmas.List.{length-map}
-use Rattle.avro_bytes.specs.Blocks.{joined}
+use Rattle.spec_avro.specs.Blocks.{joined}
 use Rattle.isa.specs.Lists.{total_length}
 use Rattle.isa.specs.State.{Blocks, Frame, Rec, Skip, SkipBlocks, add_to_slot, empty_buffers, frames_size, frames_with, has_current, out_with}
 

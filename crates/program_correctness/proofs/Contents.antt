@@ -4,12 +4,12 @@ use Rattle.std.specs.Str.{is_utf8}
 use Rattle.std.proofs.Math.Seq.{take-add}
 use Rattle.std.proofs.lemmas.Str.{IsUtf8-nil, is_utf8-from_IsUtf8}
 use Rattle.std.proofs.lemmas.List.{drop-drop}
-use Rattle.avro_bytes.specs.declared.meter.Meter.{Meter}
+use Rattle.spec_avro.specs.declared.meter.Meter.{Meter}
 use Rattle.avro_bytes.specs.Decoding.{Decoding, Complete, Failed, ◌>>=◌}
 use Rattle.avro_bytes.specs.Laws.Lengths.{length_sound}
 use Rattle.avro_bytes.specs.Laws.Numbers.{number_some}
 use Rattle.avro_bytes.specs.Length.{length_at}
-use Rattle.avro_bytes.specs.Number.{long_limit}
+use Rattle.spec_avro.specs.Number.{long_limit}
 use Rattle.avro_bytes.specs.Text.{utf8_only}
 use Rattle.isa.specs.State.{State, Store, miss}
 use Rattle.isa.specs.Table.{Move, anything, only_text, or_miss}

@@ -1,13 +1,14 @@
 -- What a row does does not depend on the count, and each row adds 1 to it.
 use Rattle.std.proofs.Common.{replicate, ◌≡◌, ℕ, ◌+◌, Bool, true, List, [], ◌∷◌, length, Option, Some, None, refl, ap, ◌∙◌, arith, slice_get}
 use Rattle.std.specs.Prelude.{nat_lt, option_map, slice_index_or}
-use Rattle.avro_bytes.specs.declared.fault.MalformedKind.TheVariants.{BadBranch, BadEnum}
-use Rattle.avro_bytes.specs.Boolean.{boolean_at, boolean_byte}
+use Rattle.spec_avro.specs.declared.malformed.MalformedKind.TheVariants.{BadBranch, BadEnum}
+use Rattle.avro_bytes.specs.Boolean.{boolean_at}
+use Rattle.spec_avro.specs.Boolean.{boolean_byte}
 use Rattle.avro_bytes.specs.Meter.{opened_blocks, opened_record}
-use Rattle.avro_bytes.specs.Number.{int_limit, long_limit}
+use Rattle.spec_avro.specs.Number.{int_limit, long_limit}
 use Rattle.avro_bytes.specs.NumberDecoding.{number_at}
 use Rattle.avro_bytes.specs.Position.{position_at}
-use Rattle.avro_bytes.specs.Shortest.{shortest}
+use Rattle.spec_avro.specs.Shortest.{shortest}
 use Rattle.avro_bytes.specs.Walk.{first_walk}
 use Rattle.isa.specs.declared.entry.Entry.TheVariants as entries
 use Rattle.isa.specs.declared.instr.Instr.{Instr}

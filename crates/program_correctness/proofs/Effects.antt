@@ -1,11 +1,11 @@
 -- The bytes of what resolution makes of items and values are those of each, in order.
 use Rattle.std.proofs.Common.{◌≡◌, ℕ, suc, ◌+◌, List, [], ◌∷◌, ◌++◌, length, Ok, Err, refl, sym, ap, ◌∙◌, arith, append_assoc, append-nil}
-use Rattle.avro_bytes.specs.Written.{after_length, in_block}
-use Rattle.avro_types.specs.Node.{Node}
-use Rattle.avro_types.specs.Datum.{Datum, Data, Pairs, ArrayDatum, MapDatum, more, pair, how_many, how_many_pairs}
+use Rattle.spec_avro.specs.Written.{after_length, in_block}
+use Rattle.spec_avro.specs.Node.{Node}
+use Rattle.spec_avro.specs.Datum.{Datum, Data, Pairs, ArrayDatum, MapDatum, more, pair, how_many, how_many_pairs}
 use Rattle.avro_datum.specs.Decoding.{data_from, pairs_from}
-use Rattle.avro_datum.specs.Writing.{written, written_data, written_pairs}
-use Rattle.resolver.specs.Resolution.{Resolved, ◌>>=◌, resolved, resolved_items, resolved_values}
+use Rattle.spec_avro.specs.Writing.{written, written_data, written_pairs}
+use Rattle.spec_avro.specs.Resolution.{Resolved, ◌>>=◌, resolved, resolved_items, resolved_values}
 
 abbrev pub bytes_of : Resolved Datum → Resolved (List ℕ)
 bytes_of res = res >>= λ d. Ok (written d)

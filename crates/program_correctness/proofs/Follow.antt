@@ -1,10 +1,11 @@
 -- A run follows what decoding gives, in few enough rows: each byte and each unit pays for some.
 use Rattle.std.proofs.Common.{◌≡◌, ℕ, suc, ◌+◌, ◌*◌, ◌≤◌, true, List, length, Option, Some, refl, ◌∙◌, subst, arith}
-use Rattle.avro_bytes.specs.declared.fault.MalformedKind.TheVariants.{Truncated}
-use Rattle.avro_bytes.specs.declared.meter.Meter.{Meter}
-use Rattle.avro_bytes.specs.Decoding.{Decoding, Complete, Defect, Failed, Malformed, Need, ◌>>=◌, map_decoding}
-use Rattle.avro_bytes.specs.Outcome.{Outcome}
-use Rattle.avro_bytes.specs.Outcome as outcomes
+use Rattle.spec_avro.specs.declared.malformed.MalformedKind.TheVariants.{Truncated}
+use Rattle.spec_avro.specs.declared.meter.Meter.{Meter}
+use Rattle.avro_bytes.specs.Decoding.{Decoding, Complete, Failed, ◌>>=◌, map_decoding}
+use Rattle.spec_avro.specs.Defect.{Defect, Malformed, Need}
+use Rattle.spec_avro.specs.Outcome.{Outcome}
+use Rattle.spec_avro.specs.Outcome as outcomes
 use Rattle.isa.specs.Program.{Program}
 use Rattle.isa.specs.State.{Out, State}
 use Rattle.isa.specs.Table.{reads, stop}

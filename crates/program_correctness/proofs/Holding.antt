@@ -2,9 +2,9 @@
 -- far.
 use Rattle.std.proofs.Common.{◌≡◌, ℕ, ◌+◌, ◌≤◌, Bool, true, false, List, [], ◌∷◌, ◌++◌, length, Option, Some, None, Ok, Err, refl, sym, ap, ◌∙◌, subst, arith, slice_get}
 use Rattle.std.specs.Prelude.{nat_lt}
-use Rattle.avro_bytes.specs.declared.limits.TheConstants.{MOST_OUTPUT}
-use Rattle.avro_bytes.specs.declared.mismatch.Mismatch.{Mismatch}
-use Rattle.resolver.specs.Resolution.{Resolved, ◌>>=◌}
+use Rattle.spec_avro.specs.declared.limits.TheConstants.{MOST_OUTPUT}
+use Rattle.spec_avro.specs.declared.mismatch.Mismatch.{Mismatch}
+use Rattle.spec_avro.specs.Resolution.{Resolved, ◌>>=◌}
 use Rattle.isa.specs.State.{Frame, Store, frames_size, size_of, empty_buffers, has_current, add}
 use Rattle.program_correctness.proofs.Buffers.{current_emptied, emptied_frames, emptied_length}
 use Rattle.program_correctness.proofs.Marks.{add_stamp, stamp, stamp_add, stamp_fits, stamp_push, stamp_twice}

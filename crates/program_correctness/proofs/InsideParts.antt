@@ -3,12 +3,13 @@ use Rattle.std.proofs.Common.{◌≡◌, ℕ, zero, suc, ◌+◌, ◌-◌, ◌�
 use Rattle.std.specs.Prelude.{nat_lt}
 use Rattle.std.specs.Str.{is_utf8}
 use Rattle.avro_bytes.specs.declared.fault.Fault.{Fault}
-use Rattle.avro_bytes.specs.declared.meter.Meter.{Meter}
+use Rattle.spec_avro.specs.declared.meter.Meter.{Meter}
 use Rattle.avro_bytes.specs.BlockDecoding.{next_item}
 use Rattle.avro_bytes.specs.Boolean.{boolean_at}
-use Rattle.avro_bytes.specs.Decoding.{Decoding, Complete, Failed, Malformed, Need, inside}
+use Rattle.avro_bytes.specs.Decoding.{Decoding, Complete, Failed, inside}
+use Rattle.spec_avro.specs.Defect.{Malformed, Need}
 use Rattle.avro_bytes.specs.Length.{length_at}
-use Rattle.avro_bytes.specs.Number.{int_limit, long_limit}
+use Rattle.spec_avro.specs.Number.{int_limit, long_limit}
 use Rattle.avro_bytes.specs.NumberDecoding.{number_at}
 use Rattle.avro_bytes.specs.Position.{position_at}
 use Rattle.avro_bytes.specs.Walk.{Walk}

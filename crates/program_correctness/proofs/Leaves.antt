@@ -2,26 +2,27 @@
 use Rattle.std.proofs.Common.{◌≡◌, ℕ, zero, suc, ◌+◌, ◌≤◌, ◌<◌, Bool, true, false, cond, List, [], ◌∷◌, ◌++◌, length, Option, Some, None, Ok, Err, refl, sym, ap, ◌∙◌, subst, arith, lit<, slice_get, pos}
 use Rattle.std.specs.Prelude.{slice_index_or}
 use Rattle.std.specs.Str.{is_utf8}
-use Rattle.avro_bytes.specs.declared.meter.Meter.{Meter}
-use Rattle.avro_bytes.specs.declared.fault.MalformedKind.TheVariants.{BadEnum}
+use Rattle.spec_avro.specs.declared.meter.Meter.{Meter}
+use Rattle.spec_avro.specs.declared.malformed.MalformedKind.TheVariants.{BadEnum}
 use Rattle.avro_bytes.specs.Blob.{content_at, fixed_at}
-use Rattle.avro_bytes.specs.Boolean.{boolean_at, boolean_byte}
+use Rattle.avro_bytes.specs.Boolean.{boolean_at}
+use Rattle.spec_avro.specs.Boolean.{boolean_byte}
 use Rattle.avro_bytes.specs.Decoding.{Decoding, Complete, ◌>>=◌ as ◌>>◌}
-use Rattle.avro_bytes.specs.Number.{int_limit, long_limit}
+use Rattle.spec_avro.specs.Number.{int_limit, long_limit}
 use Rattle.avro_bytes.specs.NumberDecoding.{number_at}
 use Rattle.avro_bytes.specs.Position.{position_at}
-use Rattle.avro_bytes.specs.Shortest.{shortest}
+use Rattle.spec_avro.specs.Shortest.{shortest}
 use Rattle.avro_bytes.specs.Text.{text_at}
-use Rattle.avro_bytes.specs.Written.{after_length}
+use Rattle.spec_avro.specs.Written.{after_length}
 use Rattle.avro_bytes.specs.Laws.Booleans.{boolean_sound}
 use Rattle.avro_bytes.specs.Laws.Numbers.{number_some, number_sound}
 use Rattle.avro_bytes.specs.Laws.Positions.{position_sound}
-use Rattle.avro_types.specs.Node.{Node}
+use Rattle.spec_avro.specs.Node.{Node}
 use Rattle.avro_datum.specs.ItemDecoding.{Reader}
-use Rattle.avro_bytes.specs.declared.mismatch.Mismatch.{Mismatch}
-use Rattle.avro_bytes.specs.declared.mismatch.MismatchKind.TheVariants as kinds
-use Rattle.resolver.specs.Options.{given}
-use Rattle.resolver.specs.Resolution.{Resolved, ◌>>=◌, symbol_for}
+use Rattle.spec_avro.specs.declared.mismatch.Mismatch.{Mismatch}
+use Rattle.spec_avro.specs.declared.mismatch.MismatchKind.TheVariants as kinds
+use Rattle.spec_avro.specs.Options.{given}
+use Rattle.spec_avro.specs.Resolution.{Resolved, ◌>>=◌, symbol_for}
 use Rattle.isa.specs.declared.entry.Entry.{Entry}
 use Rattle.isa.specs.declared.entry.Entry.TheVariants as entries
 use Rattle.isa.specs.declared.instr.Instr.{Instr}

@@ -3,14 +3,15 @@ use Rattle.std.proofs.Common.{◌≡◌, ℕ, zero, suc, ◌+◌, ◌-◌, ◌�
 use Rattle.std.specs.Prelude.{nat_lt}
 use Rattle.std.specs.Str.{is_utf8}
 use Rattle.std.proofs.lemmas.List.{length-take-le}
-use Rattle.avro_bytes.specs.declared.meter.Meter.{Meter}
-use Rattle.avro_bytes.specs.declared.fault.MalformedKind.TheVariants.{BadText, Truncated}
+use Rattle.spec_avro.specs.declared.meter.Meter.{Meter}
+use Rattle.spec_avro.specs.declared.malformed.MalformedKind.TheVariants.{BadText, Truncated}
 use Rattle.avro_bytes.specs.Blob.{content_at, fixed_at}
-use Rattle.avro_bytes.specs.Decoding.{Decoding, Complete, Failed, Malformed, Need, ◌>>=◌}
+use Rattle.avro_bytes.specs.Decoding.{Decoding, Complete, Failed, ◌>>=◌}
+use Rattle.spec_avro.specs.Defect.{Malformed, Need}
 use Rattle.avro_bytes.specs.Length.{length_at}
-use Rattle.avro_bytes.specs.Shortest.{shortest}
-use Rattle.avro_bytes.specs.Written.{after_length}
-use Rattle.avro_bytes.specs.Outcome as outcomes
+use Rattle.spec_avro.specs.Shortest.{shortest}
+use Rattle.spec_avro.specs.Written.{after_length}
+use Rattle.spec_avro.specs.Outcome as outcomes
 use Rattle.isa.specs.declared.limits.TheConstants.{MOST_CHUNK}
 use Rattle.isa.specs.Program.{Program}
 use Rattle.isa.specs.State.{Out, Content, State, Store}

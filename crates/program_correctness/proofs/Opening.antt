@@ -1,7 +1,7 @@
 -- A row opens a record, an array or a map as decoding does.
 use Rattle.std.proofs.Common.{◌≡◌, ℕ, ◌+◌, ◌*◌, ◌≤◌, true, List, Ok, Err, Result, Some, refl, sym, ap, ◌∙◌, subst, arith}
 use Rattle.avro_bytes.specs.declared.fault.Fault.{Fault}
-use Rattle.avro_bytes.specs.declared.meter.Meter.{Meter}
+use Rattle.spec_avro.specs.declared.meter.Meter.{Meter}
 use Rattle.avro_bytes.specs.Decoding.{Decoding, Complete, ◌>>=◌, inside}
 use Rattle.avro_bytes.specs.Meter.{opened_blocks, opened_record}
 use Rattle.avro_bytes.specs.Laws.Binds.{complete_is}

@@ -1,24 +1,25 @@
 -- Code for a pair of nodes writes what resolution makes of what decoding gives, at every depth.
 use Rattle.std.proofs.Common.{◌≡◌, ℕ, zero, suc, ◌+◌, ◌-◌, ◌*◌, ◌≤◌, ◌<◌, false, List, ◌∷◌, ◌++◌, length, Option, Some, Ok, Err, refl, sym, ap, ◌∙◌, subst, arith, slice_get, pos}
 use Rattle.std.specs.Prelude.{slice_index_or}
-use Rattle.avro_bytes.specs.declared.meter.Meter.{Meter}
-use Rattle.avro_bytes.specs.declared.fault.MalformedKind.TheVariants.{BadBranch}
-use Rattle.avro_bytes.specs.Decoding.{Complete, Failed, Need, map_decoding}
+use Rattle.spec_avro.specs.declared.meter.Meter.{Meter}
+use Rattle.spec_avro.specs.declared.malformed.MalformedKind.TheVariants.{BadBranch}
+use Rattle.avro_bytes.specs.Decoding.{Complete, Failed, map_decoding}
+use Rattle.spec_avro.specs.Defect.{Need}
 use Rattle.avro_bytes.specs.Position.{position_at}
-use Rattle.avro_bytes.specs.Shortest.{shortest}
+use Rattle.spec_avro.specs.Shortest.{shortest}
 use Rattle.avro_bytes.specs.Laws.Numbers.{number_some}
 use Rattle.avro_bytes.specs.Laws.Positions.{position_sound}
-use Rattle.avro_types.specs.Datum.{Datum, UnionDatum}
-use Rattle.avro_types.specs.Node.{Node, UnionNode}
-use Rattle.avro_types.specs.WellFormed.{IsWellFormed, is_union}
+use Rattle.spec_avro.specs.Datum.{Datum, UnionDatum}
+use Rattle.spec_avro.specs.Node.{Node, UnionNode}
+use Rattle.spec_avro.specs.WellFormed.{IsWellFormed, is_union}
 use Rattle.avro_datum.specs.Decoding.{Decoder, kind_at, member_at, node_at, plain_at, union_at}
 use Rattle.avro_datum.specs.ItemDecoding.{Reader}
 use Rattle.avro_datum.specs.Laws.Decoders.{Deeper}
 use Rattle.avro_datum.specs.Laws.Kinds.{kind_is_plain, none_deeper, one_deeper}
-use Rattle.avro_bytes.specs.declared.mismatch.MismatchKind.TheVariants as kinds
+use Rattle.spec_avro.specs.declared.mismatch.MismatchKind.TheVariants as kinds
 use Rattle.resolver.specs.Laws.Placed.{by_place}
-use Rattle.resolver.specs.Matching.{place}
-use Rattle.resolver.specs.Resolution.{Resolved, placed, ◌>>=◌, resolved}
+use Rattle.spec_avro.specs.Matching.{place}
+use Rattle.spec_avro.specs.Resolution.{Resolved, placed, ◌>>=◌, resolved}
 use Rattle.resolver.specs.Steps.{inside}
 use Rattle.isa.specs.declared.instr.Instr.TheVariants as op
 use Rattle.isa.specs.Program.{Program}

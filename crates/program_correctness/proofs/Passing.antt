@@ -1,16 +1,16 @@
 -- Code that passes over what a reader gives leaves the store as it was.
 use Rattle.std.proofs.Common.{◌≡◌, ℕ, zero, suc, ◌+◌, ◌≤◌, true, List, length, Some, refl, sym, ap, ◌∙◌, subst, arith, lit<, slice_get}
-use Rattle.avro_bytes.specs.declared.meter.Meter.{Meter}
-use Rattle.avro_bytes.specs.declared.fault.MalformedKind.TheVariants.{BadEnum}
+use Rattle.spec_avro.specs.declared.meter.Meter.{Meter}
+use Rattle.spec_avro.specs.declared.malformed.MalformedKind.TheVariants.{BadEnum}
 use Rattle.avro_bytes.specs.Blob.{content_at, fixed_at}
 use Rattle.avro_bytes.specs.Boolean.{boolean_at}
 use Rattle.avro_bytes.specs.Decoding.{Decoding, Complete, ◌>>=◌, map_decoding}
-use Rattle.avro_bytes.specs.Number.{int_limit, long_limit}
+use Rattle.spec_avro.specs.Number.{int_limit, long_limit}
 use Rattle.avro_bytes.specs.NumberDecoding.{number_at}
 use Rattle.avro_bytes.specs.Position.{position_at}
 use Rattle.avro_bytes.specs.Text.{text_at}
 use Rattle.avro_bytes.specs.Walk.{first_walk}
-use Rattle.avro_bytes.specs.Written.{after_length}
+use Rattle.spec_avro.specs.Written.{after_length}
 use Rattle.avro_bytes.specs.Laws.Booleans.{boolean_sound}
 use Rattle.avro_bytes.specs.Laws.Meters.{blocks_were_opened, same_meter}
 use Rattle.avro_bytes.specs.Laws.Numbers.{number_sound}

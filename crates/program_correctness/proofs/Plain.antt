@@ -1,6 +1,6 @@
 -- Rows before they are counted, and the states between them, whose count stays 0.
 use Rattle.std.proofs.Common.{◌≡◌, ℕ, true, List, length, Option, Some, None, refl, slice_get}
-use Rattle.avro_bytes.specs.declared.meter.Meter.{Meter}
+use Rattle.spec_avro.specs.declared.meter.Meter.{Meter}
 use Rattle.isa.specs.declared.instr.Instr.{Instr}
 use Rattle.isa.specs.Program.{Program}
 use Rattle.isa.specs.State.{End, Content, State, Store}

@@ -1,9 +1,9 @@
 -- The defaults of a record that is written: each goes into the slot of a field that has no partner.
 use Rattle.std.proofs.Common.{◌≡◌, ℕ, suc, ◌+◌, ◌-◌, ◌≤◌, List, length, Option, Some, None, Ok, refl, arith, ◌∙◌, slice_get}
-use Rattle.avro_types.specs.Node.{Node, FieldNode}
-use Rattle.avro_datum.specs.Writing.{written}
-use Rattle.resolver.specs.Partners.{routes}
-use Rattle.resolver.specs.Resolution.{Resolved, ◌>>=◌, Slots}
+use Rattle.spec_avro.specs.Node.{Node, FieldNode}
+use Rattle.spec_avro.specs.Writing.{written}
+use Rattle.spec_avro.specs.Partners.{routes}
+use Rattle.spec_avro.specs.Resolution.{Resolved, ◌>>=◌, Slots}
 use Rattle.isa.specs.declared.instr.Instr.TheVariants as op
 use Rattle.isa.specs.Lists.{total_length}
 use Rattle.isa.specs.Program.{Program}

@@ -1,13 +1,13 @@
 -- The fields of a record that is written: each goes into its slot, or is passed over.
 use Rattle.std.proofs.Common.{◌≡◌, ℕ, suc, ◌+◌, ◌-◌, ◌≤◌, List, [], ◌∷◌, length, Option, Some, Ok, refl, sym, ap, ◌∙◌, subst, arith}
-use Rattle.avro_bytes.specs.declared.meter.Meter.{Meter}
+use Rattle.spec_avro.specs.declared.meter.Meter.{Meter}
 use Rattle.avro_bytes.specs.Decoding.{Complete, ◌>>=◌ as ◌>>◌}
-use Rattle.avro_types.specs.Datum.{Datum, Data, more, how_many}
-use Rattle.avro_types.specs.Node.{Node, FieldNode}
+use Rattle.spec_avro.specs.Datum.{Datum, Data, more, how_many}
+use Rattle.spec_avro.specs.Node.{Node, FieldNode}
 use Rattle.avro_datum.specs.Decoding.{Decoder, fields_at}
-use Rattle.resolver.specs.declared.pairing.Route.{Route}
+use Rattle.spec_avro.specs.declared.place.Route.{Route}
 use Rattle.resolver.specs.Laws.Fields.{GoTo}
-use Rattle.resolver.specs.Resolution.{Resolved, ◌>>=◌, Slots, resolved}
+use Rattle.spec_avro.specs.Resolution.{Resolved, ◌>>=◌, Slots, resolved}
 use Rattle.isa.specs.Lists.{total_length}
 use Rattle.isa.specs.Program.{Program}
 use Rattle.isa.specs.State.{Rec, State, Store, add_to_slot}

@@ -1,9 +1,9 @@
 -- A record that is written: its slots, one of which is selected.
 use Rattle.std.proofs.Common.{◌≡◌, ℕ, suc, ◌+◌, ◌≤◌, ◌<◌, true, List, ◌∷◌, length, Option, Some, refl, sym, ap, ◌∙◌, arith, slice_get}
 use Rattle.std.specs.Prelude.{nat_lt}
-use Rattle.avro_bytes.specs.Blocks.{joined}
-use Rattle.avro_types.specs.Node.{FieldNode}
-use Rattle.resolver.specs.Resolution.{Resolved}
+use Rattle.spec_avro.specs.Blocks.{joined}
+use Rattle.spec_avro.specs.Node.{FieldNode}
+use Rattle.spec_avro.specs.Resolution.{Resolved}
 use Rattle.isa.specs.declared.instr.Instr.TheVariants as op
 use Rattle.isa.specs.Lists.{total_length}
 use Rattle.isa.specs.Program.{Program}

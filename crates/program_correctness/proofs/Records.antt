@@ -1,18 +1,18 @@
 -- The call of a record's routine: it opens the record, fills its slots, and joins them.
 use Rattle.std.proofs.Common.{◌≡◌, ℕ, suc, ◌+◌, ◌-◌, ◌≤◌, List, ◌∷◌, length, Some, None, Ok, Err, refl, sym, ap, ◌∙◌, subst, arith, slice_get}
-use Rattle.avro_bytes.specs.declared.meter.Meter.{Meter}
-use Rattle.avro_bytes.specs.Blocks.{joined}
+use Rattle.spec_avro.specs.declared.meter.Meter.{Meter}
+use Rattle.spec_avro.specs.Blocks.{joined}
 use Rattle.avro_bytes.specs.Decoding.{◌>>=◌ as ◌>>◌}
 use Rattle.avro_bytes.specs.Meter.{opened_record}
 use Rattle.avro_bytes.specs.Laws.Meters.{same_meter, was_opened}
-use Rattle.avro_types.specs.Datum.{Datum, Data, RecordDatum}
-use Rattle.avro_types.specs.Node.{Node, FieldNode}
-use Rattle.avro_types.specs.WellFormed.{HaveDistinctNames}
+use Rattle.spec_avro.specs.Datum.{Datum, Data, RecordDatum}
+use Rattle.spec_avro.specs.Node.{Node, FieldNode}
+use Rattle.spec_avro.specs.WellFormed.{HaveDistinctNames}
 use Rattle.avro_datum.specs.Decoding.{Decoder, closed_record, fields_at, record_at}
-use Rattle.avro_datum.specs.Writing.{written}
+use Rattle.spec_avro.specs.Writing.{written}
 use Rattle.avro_datum.specs.Laws.Decoders.{Deeper}
-use Rattle.resolver.specs.Partners.{routes}
-use Rattle.resolver.specs.Resolution.{Resolved, ◌>>=◌, Slots, filled, no_slots, resolved_fields}
+use Rattle.spec_avro.specs.Partners.{routes}
+use Rattle.spec_avro.specs.Resolution.{Resolved, ◌>>=◌, Slots, filled, no_slots, resolved_fields}
 use Rattle.isa.specs.declared.instr.Instr.TheVariants as op
 use Rattle.isa.specs.Lists.{total_length}
 use Rattle.isa.specs.Program.{Program}

@@ -1,6 +1,6 @@
 -- Stores at which `left` more records, arrays and maps may be opened.
 use Rattle.std.proofs.Common.{◌≡◌, ℕ, suc, ◌-◌, ◌≤◌, ◌<◌, true, List, length, refl, arith}
-use Rattle.avro_bytes.specs.declared.limits.TheConstants.{MOST_DEPTH}
+use Rattle.spec_avro.specs.declared.limits.TheConstants.{MOST_DEPTH}
 use Rattle.isa.specs.State.{Store, has_current}
 use Rattle.program_correctness.proofs.Stores.{IsFit}
 

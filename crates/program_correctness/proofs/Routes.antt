@@ -1,16 +1,16 @@
 -- The routes of a record's fields: each goes to a slot of its own.
 use Rattle.std.proofs.Common.{◌≡◌, ℕ, zero, suc, Bool, true, false, ◌==◌, ◌||◌, ◌⊎◌, inl, inr, List, [], ◌∷◌, length, Option, Some, None, IfSome, option_map, refl, sym, ap, ◌∙◌, subst, arith, slice_get, slice_set}
 use Rattle.std.proofs.lemmas.Bool.Decides.{nat_tests}
-use Rattle.avro_types.specs.Datum.{Datum}
-use Rattle.avro_types.specs.Node.{FieldNode}
-use Rattle.avro_types.specs.WellFormed.{HaveDistinctNames}
-use Rattle.resolver.specs.declared.pairing.Partner.{Partner}
-use Rattle.resolver.specs.declared.pairing.Route.{Route}
-use Rattle.resolver.specs.Options.{given}
-use Rattle.resolver.specs.Partners.{has_partner, partners, routes, routes_to}
+use Rattle.spec_avro.specs.Datum.{Datum}
+use Rattle.spec_avro.specs.Node.{FieldNode}
+use Rattle.spec_avro.specs.WellFormed.{HaveDistinctNames}
+use Rattle.spec_avro.specs.declared.place.Partner.{Partner}
+use Rattle.spec_avro.specs.declared.place.Route.{Route}
+use Rattle.spec_avro.specs.Options.{given}
+use Rattle.spec_avro.specs.Partners.{has_partner, partners, routes, routes_to}
 use Rattle.resolver.proofs.Apart.{partners_apart}
 use Rattle.resolver.specs.Laws.Fields.{GoTo, IsOneOf, length_partners, routes_go}
-use Rattle.resolver.specs.Resolution.{Slots, no_slots}
+use Rattle.spec_avro.specs.Resolution.{Slots, no_slots}
 
 equal_is : (a b : ℕ) → (a == b) ≡ true → a ≡ b
 equal_is a b e = grind (arith, nat_tests, e)

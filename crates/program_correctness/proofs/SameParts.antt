@@ -2,15 +2,16 @@
 use Rattle.std.proofs.Common.{◌≡◌, ℕ, zero, suc, ◌+◌, ◌-◌, Bool, true, false, cond, List, [], ◌∷◌, length, take, drop, Option, Some, None, Result, refl, ap, ◌∙◌, min}
 use Rattle.std.specs.Prelude.{nat_lt, option_map}
 use Rattle.std.specs.Str.{is_utf8}
-use Rattle.avro_bytes.specs.declared.meter.Meter.{Meter}
+use Rattle.spec_avro.specs.declared.meter.Meter.{Meter}
 use Rattle.avro_bytes.specs.declared.fault.Fault.{Fault}
-use Rattle.avro_bytes.specs.declared.fault.MalformedKind.TheVariants.{Trailing}
-use Rattle.avro_bytes.specs.Blocks.{joined}
+use Rattle.spec_avro.specs.declared.malformed.MalformedKind.TheVariants.{Trailing}
+use Rattle.spec_avro.specs.Blocks.{joined}
 use Rattle.avro_bytes.specs.BlockDecoding.{next_item}
-use Rattle.avro_bytes.specs.Decoding.{Decoding, Complete, Failed, Malformed, Need, inside}
+use Rattle.avro_bytes.specs.Decoding.{Decoding, Complete, Failed, inside}
+use Rattle.spec_avro.specs.Defect.{Malformed, Need}
 use Rattle.avro_bytes.specs.Length.{length_at}
 use Rattle.avro_bytes.specs.Walk.{Walk}
-use Rattle.avro_bytes.specs.Outcome as outcomes
+use Rattle.spec_avro.specs.Outcome as outcomes
 use Rattle.isa.specs.declared.entry.Entry.{Entry}
 use Rattle.isa.specs.declared.entry.Entry.TheVariants as entries
 use Rattle.isa.specs.declared.end.Trap.TheVariants.{BadSlot, NoBuffer}

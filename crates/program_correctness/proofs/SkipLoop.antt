@@ -1,7 +1,7 @@
 -- The loop over items that are passed over, whatever reads an item.
 use Rattle.std.proofs.Common.{◌≡◌, ℕ, zero, suc, ◌+◌, ◌-◌, ◌*◌, ◌≤◌, ◌<◌, List, ◌∷◌, length, Option, Some, None, refl, sym, ap, ◌∙◌, subst, arith, slice_get}
-use Rattle.avro_bytes.specs.declared.limits.TheConstants.{MOST_UNITS}
-use Rattle.avro_bytes.specs.declared.meter.Meter.{Meter}
+use Rattle.spec_avro.specs.declared.limits.TheConstants.{MOST_UNITS}
+use Rattle.spec_avro.specs.declared.meter.Meter.{Meter}
 use Rattle.avro_bytes.specs.BlockDecoding.{next_item}
 use Rattle.avro_bytes.specs.Decoding.{Complete, map_decoding}
 use Rattle.avro_bytes.specs.Walk.{Walk}

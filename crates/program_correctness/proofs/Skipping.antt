@@ -1,22 +1,23 @@
 -- Code to skip a node passes over what decoding it gives, at every depth.
 use Rattle.std.proofs.Common.{◌≡◌, ℕ, zero, suc, ◌+◌, ◌*◌, ◌-◌, ◌≤◌, ◌<◌, false, List, ◌∷◌, length, Ok, Option, Some, refl, sym, ap, ◌∙◌, subst, arith, slice_get}
 use Rattle.std.specs.Prelude.{slice_index_or}
-use Rattle.avro_bytes.specs.declared.meter.Meter.{Meter}
-use Rattle.avro_bytes.specs.declared.fault.MalformedKind.TheVariants.{BadBranch, BadEnum}
+use Rattle.spec_avro.specs.declared.meter.Meter.{Meter}
+use Rattle.spec_avro.specs.declared.malformed.MalformedKind.TheVariants.{BadBranch, BadEnum}
 use Rattle.avro_bytes.specs.Blob.{content_at, fixed_at}
 use Rattle.avro_bytes.specs.Boolean.{boolean_at}
-use Rattle.avro_bytes.specs.Decoding.{Complete, Failed, Need, ◌>>=◌, map_decoding}
+use Rattle.avro_bytes.specs.Decoding.{Complete, Failed, ◌>>=◌, map_decoding}
+use Rattle.spec_avro.specs.Defect.{Need}
 use Rattle.avro_bytes.specs.Meter.{opened_record}
-use Rattle.avro_bytes.specs.Number.{int_limit, long_limit}
+use Rattle.spec_avro.specs.Number.{int_limit, long_limit}
 use Rattle.avro_bytes.specs.NumberDecoding.{number_at}
 use Rattle.avro_bytes.specs.Position.{position_at}
 use Rattle.avro_bytes.specs.Text.{text_at}
 use Rattle.avro_bytes.specs.Laws.Meters.{same_meter, was_opened}
 use Rattle.avro_bytes.specs.Laws.Numbers.{number_some}
 use Rattle.avro_bytes.specs.Laws.Positions.{position_sound}
-use Rattle.avro_types.specs.Datum.{Datum, Data, NullDatum, BooleanDatum, IntDatum, LongDatum, BytesDatum, TextDatum, FixedDatum, EnumDatum, UnionDatum, more, no_more}
-use Rattle.avro_types.specs.Node.{Node, FieldNode, NullNode, BooleanNode, IntNode, LongNode, BytesNode, TextNode, FixedNode, EnumNode, ArrayNode, MapNode, RecordNode}
-use Rattle.avro_types.specs.WellFormed.{is_union}
+use Rattle.spec_avro.specs.Datum.{Datum, Data, NullDatum, BooleanDatum, IntDatum, LongDatum, BytesDatum, TextDatum, FixedDatum, EnumDatum, UnionDatum, more, no_more}
+use Rattle.spec_avro.specs.Node.{Node, FieldNode, NullNode, BooleanNode, IntNode, LongNode, BytesNode, TextNode, FixedNode, EnumNode, ArrayNode, MapNode, RecordNode}
+use Rattle.spec_avro.specs.WellFormed.{is_union}
 use Rattle.avro_datum.specs.Decoding.{Decoder, array_of, closed_record, fields_at, kind_at, map_of, member_at, node_at, pair_at, plain_at, record_at, union_at}
 use Rattle.avro_datum.specs.ItemDecoding.{Reader, blocks_at}
 use Rattle.avro_datum.specs.Laws.Decoders.{Deeper}

@@ -1,16 +1,16 @@
 -- The buffers of a record's slots, while its fields are read and when its defaults are filled in.
 use Rattle.std.proofs.Common.{◌≡◌, ℕ, zero, suc, ◌<◌, true, false, List, [], ◌∷◌, ◌++◌, length, map, Option, Some, None, IfSome, Ok, Err, refl, sym, ap, ◌∙◌, subst, arith, slice_get, slice_set}
 use Rattle.std.proofs.lemmas.List.{length-set}
-use Rattle.avro_bytes.specs.Blocks.{joined}
-use Rattle.avro_types.specs.Datum.{Datum, Data, no_more, more, how_many}
-use Rattle.avro_types.specs.Node.{Node, FieldNode}
-use Rattle.avro_datum.specs.Writing.{written, written_data}
-use Rattle.resolver.specs.declared.pairing.Partner.{Partner}
-use Rattle.resolver.specs.declared.pairing.Route.{Route}
-use Rattle.resolver.specs.Options.{given, or_else}
-use Rattle.resolver.specs.Partners.{has_partner, routes}
+use Rattle.spec_avro.specs.Blocks.{joined}
+use Rattle.spec_avro.specs.Datum.{Datum, Data, no_more, more, how_many}
+use Rattle.spec_avro.specs.Node.{Node, FieldNode}
+use Rattle.spec_avro.specs.Writing.{written, written_data}
+use Rattle.spec_avro.specs.declared.place.Partner.{Partner}
+use Rattle.spec_avro.specs.declared.place.Route.{Route}
+use Rattle.spec_avro.specs.Options.{given, or_else}
+use Rattle.spec_avro.specs.Partners.{has_partner, routes}
 use Rattle.resolver.specs.Laws.Fields.{filled_by_partners, is_filled, length_no_slots, one_put}
-use Rattle.resolver.specs.Resolution.{Resolved, ◌>>=◌, Slots, filled, no_slots, resolved, resolved_fields}
+use Rattle.spec_avro.specs.Resolution.{Resolved, ◌>>=◌, Slots, filled, no_slots, resolved, resolved_fields}
 use Rattle.isa.specs.State.{add_to_slot}
 use Rattle.program_definition.specs.Stands.{PutsNothing}
 use Rattle.program_correctness.proofs.Buffers.{new_slots}

@@ -1,8 +1,8 @@
 -- What is proved of the code for nodes, where `left` more records, arrays and maps may be opened.
 use Rattle.std.proofs.Common.{ℕ, ◌-◌, List, length}
-use Rattle.avro_types.specs.Node.{Node}
+use Rattle.spec_avro.specs.Node.{Node}
 use Rattle.avro_datum.specs.Decoding.{Decoder}
-use Rattle.resolver.specs.Resolution.{resolved}
+use Rattle.spec_avro.specs.Resolution.{resolved}
 use Rattle.isa.specs.Program.{Program}
 use Rattle.program_definition.specs.Statements.{Section}
 use Rattle.program_definition.specs.SkipStands.{Skips}

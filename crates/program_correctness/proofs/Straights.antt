@@ -1,27 +1,27 @@
 -- Code for nodes that match, neither a union, writes what resolution makes of what decoding gives.
 use Rattle.std.proofs.Common.{◌≡◌, ℕ, ◌+◌, ◌-◌, ◌<◌, false, List, length, Option, Some, None, Ok, Err, refl, sym, ap, ◌∙◌, subst, arith, slice_get, pos}
 use Rattle.std.specs.Str.{is_utf8}
-use Rattle.avro_bytes.specs.declared.fault.MalformedKind.TheVariants.{BadEnum}
+use Rattle.spec_avro.specs.declared.malformed.MalformedKind.TheVariants.{BadEnum}
 use Rattle.avro_bytes.specs.Blob.{content_at, fixed_at}
 use Rattle.avro_bytes.specs.Boolean.{boolean_at}
 use Rattle.avro_bytes.specs.Decoding.{map_decoding}
-use Rattle.avro_bytes.specs.Number.{int_limit, long_limit}
+use Rattle.spec_avro.specs.Number.{int_limit, long_limit}
 use Rattle.avro_bytes.specs.NumberDecoding.{number_at}
 use Rattle.avro_bytes.specs.Position.{position_at}
-use Rattle.avro_bytes.specs.Shortest.{shortest}
+use Rattle.spec_avro.specs.Shortest.{shortest}
 use Rattle.avro_bytes.specs.Text.{text_at}
-use Rattle.avro_bytes.specs.Written.{after_length, in_block}
-use Rattle.avro_types.specs.Datum.{Datum, BooleanDatum, BytesDatum, FixedDatum, IntDatum, EnumDatum, LongDatum, TextDatum}
-use Rattle.avro_types.specs.Node.{Node, NullNode, BooleanNode, IntNode, LongNode, BytesNode, TextNode, FixedNode, EnumNode, ArrayNode, MapNode, RecordNode}
-use Rattle.avro_types.specs.WellFormed.{IsWellFormed, is_union}
+use Rattle.spec_avro.specs.Written.{after_length, in_block}
+use Rattle.spec_avro.specs.Datum.{Datum, BooleanDatum, BytesDatum, FixedDatum, IntDatum, EnumDatum, LongDatum, TextDatum}
+use Rattle.spec_avro.specs.Node.{Node, NullNode, BooleanNode, IntNode, LongNode, BytesNode, TextNode, FixedNode, EnumNode, ArrayNode, MapNode, RecordNode}
+use Rattle.spec_avro.specs.WellFormed.{IsWellFormed, is_union}
 use Rattle.avro_datum.specs.Decoding.{Decoder, array_of, map_of, pair_at, plain_at, record_at}
 use Rattle.avro_datum.specs.ItemDecoding.{Reader, blocks_at}
-use Rattle.avro_datum.specs.Writing.{written}
+use Rattle.spec_avro.specs.Writing.{written}
 use Rattle.avro_datum.specs.Laws.Decoders.{Deeper}
-use Rattle.avro_bytes.specs.declared.mismatch.Mismatch.{Mismatch}
-use Rattle.avro_bytes.specs.declared.mismatch.MismatchKind.TheVariants as kinds
-use Rattle.resolver.specs.Options.{given}
-use Rattle.resolver.specs.Resolution.{Resolved, ◌>>=◌, bytes_for, lacking, symbol_for}
+use Rattle.spec_avro.specs.declared.mismatch.Mismatch.{Mismatch}
+use Rattle.spec_avro.specs.declared.mismatch.MismatchKind.TheVariants as kinds
+use Rattle.spec_avro.specs.Options.{given}
+use Rattle.spec_avro.specs.Resolution.{Resolved, ◌>>=◌, bytes_for, lacking, symbol_for}
 use Rattle.resolver.specs.Steps.{inside}
 use Rattle.isa.specs.declared.instr.Instr.TheVariants as op
 use Rattle.isa.specs.Program.{Program}

@@ -1,20 +1,20 @@
 -- What is read where there is no union, and the bytes of what resolution makes of it.
 use Rattle.std.proofs.Common.{◌≡◌, ℕ, Bool, true, false, cond, List, ◌++◌, Option, Some, None, Ok, Err, refl, sym, ap, slice_get, pos, ℤ}
-use Rattle.avro_bytes.specs.declared.meter.Meter.{Meter}
+use Rattle.spec_avro.specs.declared.meter.Meter.{Meter}
 use Rattle.avro_bytes.specs.Decoding.{Complete}
 use Rattle.avro_bytes.specs.Meter.{opened_record}
-use Rattle.avro_bytes.specs.Shortest.{shortest}
-use Rattle.avro_bytes.specs.Written.{after_length}
+use Rattle.spec_avro.specs.Shortest.{shortest}
+use Rattle.spec_avro.specs.Written.{after_length}
 use Rattle.avro_bytes.specs.Laws.Binds.{complete_is, then_complete}
-use Rattle.avro_types.specs.Datum.{Datum, Data, IntDatum, TextDatum, UnionDatum, RecordDatum}
-use Rattle.avro_types.specs.Node.{Node, Names, FieldNode, NullNode, BooleanNode, IntNode, LongNode, BytesNode, TextNode, FixedNode, EnumNode, ArrayNode, MapNode, UnionNode, RecordNode}
-use Rattle.avro_types.specs.WellFormed.{is_union}
+use Rattle.spec_avro.specs.Datum.{Datum, Data, IntDatum, TextDatum, UnionDatum, RecordDatum}
+use Rattle.spec_avro.specs.Node.{Node, Names, FieldNode, NullNode, BooleanNode, IntNode, LongNode, BytesNode, TextNode, FixedNode, EnumNode, ArrayNode, MapNode, UnionNode, RecordNode}
+use Rattle.spec_avro.specs.WellFormed.{is_union}
 use Rattle.avro_datum.specs.Decoding.{Decoder, closed_record, fields_at, plain_at, record_at}
-use Rattle.avro_datum.specs.Writing.{written}
+use Rattle.spec_avro.specs.Writing.{written}
 use Rattle.avro_datum.specs.Laws.Parts.{inside_complete, mapped}
-use Rattle.avro_bytes.specs.declared.mismatch.MismatchKind.TheVariants as kinds
+use Rattle.spec_avro.specs.declared.mismatch.MismatchKind.TheVariants as kinds
 use Rattle.resolver.specs.Laws.Placed.{is_union_datum}
-use Rattle.resolver.specs.Resolution.{Resolved, ◌>>=◌, bytes_for, int_for, lacking, mismatch, text_for}
+use Rattle.spec_avro.specs.Resolution.{Resolved, ◌>>=◌, bytes_for, int_for, lacking, mismatch, text_for}
 use Rattle.resolver.specs.Steps.{inside}
 use Rattle.program_definition.specs.Statements.{miss as why_not}
 use Rattle.program_definition.specs.Writing.{is_text}

@@ -1,26 +1,26 @@
 -- A program for a pair of schemas ends with the outcome of its payload, in few enough rows.
 use Rattle.std.proofs.Common.{◌≡◌, ℕ, ◌+◌, ◌-◌, ◌*◌, ◌≤◌, Bool, true, false, cond, List, [], ◌∷◌, length, Some, None, Ok, Err, refl, sym, ap, ◌∙◌, subst, arith, slice_get}
 use Rattle.std.specs.Prelude.{nat_lt}
-use Rattle.avro_bytes.specs.declared.fault.MalformedKind.TheVariants.{Trailing, Truncated}
-use Rattle.avro_bytes.specs.declared.limits.TheConstants.{MOST_DEPTH}
-use Rattle.avro_bytes.specs.declared.meter.Meter.{Meter}
-use Rattle.avro_bytes.specs.Decoding.{Decoding, Complete, Failed, Malformed, Need}
-use Rattle.avro_bytes.specs.Meter.{start}
+use Rattle.spec_avro.specs.declared.malformed.MalformedKind.TheVariants.{Trailing, Truncated}
+use Rattle.spec_avro.specs.declared.limits.TheConstants.{MOST_DEPTH, MOST_OUTPUT}
+use Rattle.spec_avro.specs.declared.meter.Meter.{Meter}
+use Rattle.avro_bytes.specs.Decoding.{Decoding, Complete, Failed}
+use Rattle.spec_avro.specs.Defect.{Malformed, Need}
+use Rattle.spec_avro.specs.Meter.{start}
 use Rattle.avro_bytes.specs.Laws.Binds.{stands_within}
-use Rattle.avro_types.specs.Datum.{Datum}
-use Rattle.avro_types.specs.Node.{Node}
-use Rattle.avro_types.specs.WellFormed.{IsWellFormed}
+use Rattle.spec_avro.specs.Datum.{Datum}
+use Rattle.spec_avro.specs.Node.{Node}
+use Rattle.spec_avro.specs.WellFormed.{IsWellFormed}
 use Rattle.avro_datum.specs.Decoding.{datum_at}
-use Rattle.avro_datum.specs.Spelling.{Spells}
-use Rattle.avro_datum.specs.Writing.{written}
+use Rattle.spec_avro.specs.Spelling.{Spells}
+use Rattle.spec_avro.specs.Writing.{written}
 use Rattle.avro_datum.specs.Laws.Sound.{datum_sound}
 use Rattle.avro_datum.proofs.Payloads.{is_malformed, is_trailing, is_truncated, is_whole}
-use Rattle.avro_bytes.specs.declared.limits.TheConstants.{MOST_OUTPUT}
-use Rattle.avro_bytes.specs.declared.mismatch.Mismatch.{Mismatch}
-use Rattle.avro_bytes.specs.Outcome.{Outcome, Done, Mismatched, OutputTooLarge}
-use Rattle.avro_bytes.specs.Outcome as outcomes
-use Rattle.resolver.specs.Outcome.{IsOutcome}
-use Rattle.resolver.specs.Resolution.{Resolved, resolved}
+use Rattle.spec_avro.specs.declared.mismatch.Mismatch.{Mismatch}
+use Rattle.spec_avro.specs.Outcome.{Outcome, Done, Mismatched, OutputTooLarge}
+use Rattle.spec_avro.specs.Outcome as outcomes
+use Rattle.spec_avro.specs.PayloadOutcome.{IsOutcome}
+use Rattle.spec_avro.specs.Resolution.{Resolved, resolved}
 use Rattle.isa.specs.declared.instr.Instr.TheVariants as op
 use Rattle.isa.specs.Program.{Program}
 use Rattle.isa.specs.State.{Frame, Out, State, Store, add, start as begin}

@@ -2,7 +2,7 @@
 use Rattle.std.proofs.Common.{refl}
 use Rattle.avro_bytes.specs.NumberDecoding.{number_at, number_front}
 use Rattle.avro_bytes.specs.Position.{position_at}
-use Rattle.avro_bytes.specs.Shortest as short
+use Rattle.spec_avro.specs.Shortest as short
 use Rattle.isa.specs.State.{add}
 use Rattle.isa.specs.Row.{row_of}
 use Rattle.program_correctness.specs.Alone.{rows_from}

@@ -1,16 +1,16 @@
 -- The loop over items that are written, whatever reads an item and whatever bytes come of it.
 use Rattle.std.proofs.Common.{◌≡◌, ℕ, zero, suc, ◌+◌, ◌-◌, ◌*◌, ◌≤◌, ◌<◌, true, List, [], ◌∷◌, ◌++◌, length, Option, Some, None, Ok, refl, sym, ap, ◌∙◌, subst, arith, length-append, slice_get, pos}
-use Rattle.avro_bytes.specs.declared.limits.TheConstants.{MOST_UNITS}
-use Rattle.avro_bytes.specs.declared.meter.Meter.{Meter}
+use Rattle.spec_avro.specs.declared.limits.TheConstants.{MOST_UNITS}
+use Rattle.spec_avro.specs.declared.meter.Meter.{Meter}
 use Rattle.avro_bytes.specs.BlockDecoding.{next_item}
 use Rattle.avro_bytes.specs.Decoding.{Complete, map_decoding}
-use Rattle.avro_bytes.specs.Shortest.{shortest}
+use Rattle.spec_avro.specs.Shortest.{shortest}
 use Rattle.avro_bytes.specs.Walk.{Walk}
-use Rattle.avro_bytes.specs.Written.{block_count, in_block}
+use Rattle.spec_avro.specs.Written.{block_count, in_block}
 use Rattle.avro_bytes.specs.Laws.Meters.{same_meter}
 use Rattle.avro_bytes.specs.Laws.Walks.{end_meter, end_takes, item_meter}
 use Rattle.avro_datum.specs.ItemDecoding.{Reader, items_at, items_from}
-use Rattle.resolver.specs.Resolution.{Resolved, ◌>>=◌}
+use Rattle.spec_avro.specs.Resolution.{Resolved, ◌>>=◌}
 use Rattle.isa.specs.declared.instr.Instr.TheVariants as op
 use Rattle.isa.specs.Program.{Program}
 use Rattle.isa.specs.State.{Blocks, Frame, State, Store, add, has_current, meter_of}

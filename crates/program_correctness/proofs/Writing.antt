@@ -1,10 +1,10 @@
 -- Code that writes: it follows a reader, and its effect is the bytes of what was read, or a mismatch.
 use Rattle.std.proofs.Common.{◌≡◌, ℕ, ◌≤◌, List, length, Ok, Err, sym, ◌∙◌, subst}
-use Rattle.avro_bytes.specs.declared.meter.Meter.{Meter}
+use Rattle.spec_avro.specs.declared.meter.Meter.{Meter}
 use Rattle.avro_bytes.specs.Decoding.{Complete, map_decoding}
 use Rattle.avro_datum.specs.ItemDecoding.{Reader}
-use Rattle.avro_bytes.specs.declared.mismatch.Mismatch.{Mismatch}
-use Rattle.resolver.specs.Resolution.{Resolved}
+use Rattle.spec_avro.specs.declared.mismatch.Mismatch.{Mismatch}
+use Rattle.spec_avro.specs.Resolution.{Resolved}
 use Rattle.isa.specs.Program.{Program}
 use Rattle.isa.specs.State.{State, Store, add, has_current}
 use Rattle.program_correctness.proofs.Buffers.{current_emptied, emptied_length}

@@ -1,7 +1,7 @@
 -- The worked program of the list of longs, run alone. All of this is this project's own.
 use Rattle.std.specs.Prelude.{◌≡◌, ℕ, true, false, List, [], ◌∷◌, Some, None}
-use Rattle.avro_bytes.specs.declared.fault.MalformedKind.TheVariants.{Truncated}
-use Rattle.avro_bytes.specs.Outcome.{Done, Malformed}
+use Rattle.spec_avro.specs.declared.malformed.MalformedKind.TheVariants.{Truncated}
+use Rattle.spec_avro.specs.Outcome.{Done, Malformed}
 use Rattle.isa.specs.State.{Out, Rec}
 use Rattle.program_definition.specs.Worked.{long_list_program}
 use Rattle.program_correctness.specs.Alone.{run_alone}

@@ -2,7 +2,7 @@
 use Rattle.std.proofs.Common.{◌≡◌, ℕ, zero, suc, ◌+◌, Bool, true, false, List, [], ◌∷◌, ◌++◌, Option, Some, None, refl, subst}
 use Rattle.std.specs.Prelude.{slice_get, if◌then◌else◌}
 use Rattle.std.specs.List.{AllByRecursion}
-use Rattle.resolver.specs.Options.{given}
+use Rattle.spec_avro.specs.Options.{given}
 use Rattle.program_definition.specs.Code.{reached}
 use Rattle.program_definition.specs.Statements.{Section, Statement}
 use Rattle.program_definition.specs.Numbering.{adding, calls_of, has, named_in, same_section}

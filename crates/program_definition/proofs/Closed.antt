@@ -4,7 +4,7 @@ use Rattle.std.specs.Prelude.{slice_get}
 use Rattle.std.specs.List.{AllByRecursion}
 use Rattle.std.proofs.lemmas.Option.{slice_get_within}
 use Rattle.std.proofs.lemmas.Bool.{cases_lt}
-use Rattle.resolver.specs.Options.{given}
+use Rattle.spec_avro.specs.Options.{given}
 use Rattle.program_definition.specs.Code.{statements_of, reached}
 use Rattle.program_definition.specs.Statements.{Section, Main, Statement}
 use Rattle.program_definition.specs.Numbering.{adding, calls_of, has, named_in, same_section}

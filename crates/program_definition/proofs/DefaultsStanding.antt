@@ -1,12 +1,12 @@
 -- Where the statements of defaults are placed, the program has the code of the defaults.
 use Rattle.std.proofs.Common.{◌≡◌, ℕ, suc, ◌+◌, ◌<◌, Bool, true, false, cond, List, [], ◌∷◌, ◌++◌, length, Option, Some, None, refl, sym, ap, ◌∙◌, subst, arith, length-append}
 use Rattle.std.specs.Prelude.{slice_get}
-use Rattle.avro_datum.specs.Writing.{written}
-use Rattle.avro_types.specs.Datum.{Datum}
-use Rattle.avro_types.specs.Node.{Node, FieldNode}
-use Rattle.resolver.specs.declared.pairing.Route.{Route}
-use Rattle.resolver.specs.Options.{given}
-use Rattle.resolver.specs.Partners.{has_partner}
+use Rattle.spec_avro.specs.Writing.{written}
+use Rattle.spec_avro.specs.Datum.{Datum}
+use Rattle.spec_avro.specs.Node.{Node, FieldNode}
+use Rattle.spec_avro.specs.declared.place.Route.{Route}
+use Rattle.spec_avro.specs.Options.{given}
+use Rattle.spec_avro.specs.Partners.{has_partner}
 use Rattle.isa.specs.Program.{Program}
 use Rattle.program_definition.specs.Statements.{Section, Statement}
 use Rattle.program_definition.specs.Stands.{Defaults, PutsNothing, no_default, none_put, one_put, partnered}

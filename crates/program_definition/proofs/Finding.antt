@@ -4,10 +4,10 @@ use Rattle.std.specs.Prelude.{slice_get, if◌then◌else◌}
 use Rattle.std.specs.List.{AllByRecursion}
 use Rattle.std.proofs.lemmas.Bool.{cases_lt}
 use Rattle.std.proofs.lemmas.Option.{slice_get_within}
-use Rattle.avro_types.specs.Node.{Node, FieldNode, RecordNode}
-use Rattle.avro_types.specs.WellFormed.{IsWellFormed}
-use Rattle.resolver.specs.Options.{given}
-use Rattle.resolver.specs.Resolution.{field_lists}
+use Rattle.spec_avro.specs.Node.{Node, FieldNode, RecordNode}
+use Rattle.spec_avro.specs.WellFormed.{IsWellFormed}
+use Rattle.spec_avro.specs.Options.{given}
+use Rattle.spec_avro.specs.Resolution.{field_lists}
 use Rattle.program_definition.specs.Code.{reached}
 use Rattle.program_definition.specs.Limits.{AreAll, SectionsAreFound}
 use Rattle.program_definition.specs.Statements.{Section, Main, Write, Skip}

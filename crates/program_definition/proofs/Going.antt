@@ -1,8 +1,8 @@
 -- The compiler's loop: one round for each section, and what it has at its end.
 use Rattle.std.proofs.Common.{◌≡◌, ℕ, zero, suc, ◌+◌, ◌<◌, ◌≤◌, Bool, true, false, ◌&&◌, List, [], ◌∷◌, ◌++◌, length, take, Option, Some, None, refl, sym, ap, ◌∙◌, arith, length-append, append_assoc, append-nil}
 use Rattle.std.specs.Prelude.{slice_get, if◌then◌else◌}
-use Rattle.avro_types.specs.Node.{Node}
-use Rattle.resolver.specs.Options.{given}
+use Rattle.spec_avro.specs.Node.{Node}
+use Rattle.spec_avro.specs.Options.{given}
 use Rattle.isa.specs.declared.limits.TheConstants.{MOST_INSTRS}
 use Rattle.isa.specs.Judging.{is_within_limits}
 use Rattle.isa.specs.Program.{Program}

@@ -2,8 +2,8 @@
 use Rattle.std.proofs.Common.{◌≡◌, ℕ, ◌+◌, ◌<◌, ◌≤◌, List, [], ◌∷◌, ◌++◌, length, map, Some, subst, arith, length-append}
 use Rattle.std.specs.Prelude.{slice_get}
 use Rattle.std.specs.List.{AllByRecursion}
-use Rattle.avro_types.specs.Node.{Node, Names, FieldNode, RecordNode}
-use Rattle.resolver.specs.Resolution.{field_lists}
+use Rattle.spec_avro.specs.Node.{Node, Names, FieldNode, RecordNode}
+use Rattle.spec_avro.specs.Resolution.{field_lists}
 use Rattle.isa.specs.declared.instr.Instr.{Instr}
 use Rattle.isa.specs.declared.instr.Instr.TheVariants as op
 use Rattle.isa.specs.declared.limits.TheConstants.{MOST_SYMBOLS}

@@ -1,13 +1,14 @@
 -- The statements of each section are good.
 use Rattle.std.proofs.Common.{◌≡◌, ℕ, suc, ◌+◌, ◌<◌, ◌≤◌, List, [], ◌∷◌, ◌++◌, length, Option, Some, None, IfSome, refl, sym, subst, arith}
 use Rattle.std.specs.Prelude.{slice_get}
-use Rattle.avro_types.specs.Node.{Node, FieldNode, RecordNode}
-use Rattle.avro_types.specs.WellFormed.{FieldsBelow, IsWellFormed}
-use Rattle.resolver.specs.declared.pairing.Partner.{Partner}
-use Rattle.resolver.specs.declared.pairing.Route.{Route}
-use Rattle.resolver.specs.Options.{given}
-use Rattle.resolver.specs.Partners.{AreRoutes, routes}
-use Rattle.resolver.specs.Resolution.{field_lists}
+use Rattle.spec_avro.specs.Node.{Node, FieldNode, RecordNode}
+use Rattle.spec_avro.specs.WellFormed.{FieldsBelow, IsWellFormed}
+use Rattle.spec_avro.specs.declared.place.Partner.{Partner}
+use Rattle.spec_avro.specs.declared.place.Route.{Route}
+use Rattle.spec_avro.specs.Options.{given}
+use Rattle.resolver.specs.Partners.{AreRoutes}
+use Rattle.spec_avro.specs.Partners.{routes}
+use Rattle.spec_avro.specs.Resolution.{field_lists}
 use Rattle.resolver.proofs.Within.{routes_within}
 use Rattle.isa.specs.declared.instr.Instr.TheVariants as op
 use Rattle.isa.specs.declared.limits.TheConstants.{MOST_SLOTS}

@@ -2,23 +2,23 @@
 use Rattle.std.proofs.Common.{◌≡◌, ℕ, zero, suc, ◌<◌, Bool, true, false, cond, List, [], ◌∷◌, length, map, Option, Some, None, IfSome, ℤ, refl, sym, ap, ◌∙◌, subst, arith}
 use Rattle.std.specs.Prelude.{◌+◌, ◌/◌, ◌%◌, pos, slice_get, nat_lt}
 use Rattle.std.specs.List.{AllByRecursion}
-use Rattle.avro_bytes.specs.Number.{zigzag}
-use Rattle.avro_bytes.specs.Shortest.{shortest, shortest_groups}
+use Rattle.spec_avro.specs.Number.{zigzag}
+use Rattle.spec_avro.specs.Shortest.{shortest, shortest_groups}
 use Rattle.avro_types.specs.Laws.Placed.{place-within}
-use Rattle.avro_types.specs.Node.{Node, FieldNode, NullNode, BooleanNode, IntNode, LongNode, BytesNode, TextNode, FixedNode, EnumNode, ArrayNode, MapNode, UnionNode, RecordNode}
-use Rattle.avro_types.specs.Symbols.{place_of}
-use Rattle.avro_types.specs.WellFormed.{FieldsBelow, IsMember, IsPartOf, IsWellFormed, is_named, is_union}
-use Rattle.avro_bytes.specs.declared.mismatch.MismatchKind.{MismatchKind}
-use Rattle.avro_bytes.specs.declared.mismatch.MismatchKind.TheVariants as kinds
+use Rattle.spec_avro.specs.Node.{Node, FieldNode, NullNode, BooleanNode, IntNode, LongNode, BytesNode, TextNode, FixedNode, EnumNode, ArrayNode, MapNode, UnionNode, RecordNode}
+use Rattle.spec_avro.specs.Symbols.{place_of}
+use Rattle.spec_avro.specs.WellFormed.{FieldsBelow, IsMember, IsPartOf, IsWellFormed, is_named, is_union}
+use Rattle.spec_avro.specs.declared.mismatch.MismatchKind.{MismatchKind}
+use Rattle.spec_avro.specs.declared.mismatch.MismatchKind.TheVariants as kinds
 use Rattle.resolver.proofs.Fitting.{is_a_union, node_fits}
 use Rattle.resolver.proofs.Members.{found, member_in, never_else, no_union_at}
-use Rattle.resolver.specs.declared.pairing.Route.{Route}
-use Rattle.resolver.specs.declared.place.Destination.{Destination}
-use Rattle.resolver.specs.declared.place.Destination.TheVariants.{Straight, IntoMember, Nowhere, Unmatched}
-use Rattle.resolver.specs.Matching.{first_member, matches, place, place_at}
-use Rattle.resolver.specs.Options.{given, or_else}
-use Rattle.resolver.specs.Partners.{routes}
-use Rattle.resolver.specs.Resolution.{field_lists, lacking, lacking_from, lacks, symbol_for}
+use Rattle.spec_avro.specs.declared.place.Route.{Route}
+use Rattle.spec_avro.specs.declared.place.Destination.{Destination}
+use Rattle.spec_avro.specs.declared.place.Destination.TheVariants.{Straight, IntoMember, Nowhere, Unmatched}
+use Rattle.spec_avro.specs.Matching.{first_member, matches, place, place_at}
+use Rattle.spec_avro.specs.Options.{given, or_else}
+use Rattle.spec_avro.specs.Partners.{routes}
+use Rattle.spec_avro.specs.Resolution.{field_lists, lacking, lacking_from, lacks, symbol_for}
 use Rattle.isa.specs.declared.instr.Instr.TheVariants as op
 use Rattle.isa.specs.declared.limits.TheConstants.{MOST_SYMBOLS}
 use Rattle.isa.specs.Range.{MissIsInRange}

@@ -4,8 +4,8 @@ use Rattle.std.specs.Prelude.{if◌then◌else◌}
 use Rattle.std.specs.List.{AllByRecursion}
 use Rattle.std.specs.Str.{bytes_eq}
 use Rattle.std.proofs.lemmas.List.{length-map}
-use Rattle.avro_types.specs.Node.{Node}
-use Rattle.avro_types.specs.WellFormed.{IsWellFormed}
+use Rattle.spec_avro.specs.Node.{Node}
+use Rattle.spec_avro.specs.WellFormed.{IsWellFormed}
 use Rattle.isa.specs.declared.limits.TheConstants.{MOST_INSTRS}
 use Rattle.isa.specs.Judging.{is_within_limits}
 use Rattle.isa.specs.Program.{Program}

@@ -1,8 +1,8 @@
 -- How many levels are enough: arrays, maps and unions hold later nodes, or nodes of named types.
 use Rattle.std.proofs.Common.{◌≡◌, ℕ, zero, suc, ◌+◌, ◌<◌, ◌⊎◌, inl, inr, true, false, List, [], ◌∷◌, length, None, sym, ◌∙◌, arith}
 use Rattle.std.specs.Prelude.{slice_get}
-use Rattle.avro_types.specs.Node.{Node}
-use Rattle.avro_types.specs.WellFormed.{IsPartOf, is_named}
+use Rattle.spec_avro.specs.Node.{Node}
+use Rattle.spec_avro.specs.WellFormed.{IsPartOf, is_named}
 
 module _ (W : List Node) where
   abbrev pub Enough : ℕ → ℕ → Type 0

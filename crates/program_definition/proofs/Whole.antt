@@ -2,10 +2,10 @@
 use Rattle.std.proofs.Common.{◌≡◌, ℕ, ◌+◌, ◌<◌, ◌≤◌, true, false, List, [], ◌∷◌, ◌++◌, length, Option, Some, None, refl, ap, ◌∙◌, arith, length-append}
 use Rattle.std.specs.Prelude.{slice_get, if◌then◌else◌}
 use Rattle.std.specs.List.{AllByRecursion}
-use Rattle.avro_types.specs.Node.{Node, FieldNode, RecordNode}
-use Rattle.avro_types.specs.WellFormed.{IsWellFormed}
-use Rattle.resolver.specs.Options.{given}
-use Rattle.resolver.specs.Resolution.{field_lists}
+use Rattle.spec_avro.specs.Node.{Node, FieldNode, RecordNode}
+use Rattle.spec_avro.specs.WellFormed.{IsWellFormed}
+use Rattle.spec_avro.specs.Options.{given}
+use Rattle.spec_avro.specs.Resolution.{field_lists}
 use Rattle.isa.specs.declared.instr.Instr.TheVariants as op
 use Rattle.program_definition.specs.Code.{are_whole, is_lost, statements_of}
 use Rattle.program_definition.specs.Limits.{AreAll, NoStatementIsLost}

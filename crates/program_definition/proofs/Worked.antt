@@ -1,8 +1,8 @@
 -- Worked pairs have the programs that the compiler's table gives them.
 use Rattle.std.proofs.Common.{refl}
-use Rattle.avro_bytes.specs.Shortest as S
-use Rattle.avro_datum.specs.Writing.{written}
-use Rattle.resolver.specs.Matching.{matches_within}
+use Rattle.spec_avro.specs.Shortest as S
+use Rattle.spec_avro.specs.Writing.{written}
+use Rattle.spec_avro.specs.Matching.{matches_within}
 use Rattle.program_definition.specs.Code.{code_of}
 use Rattle.program_definition.specs.Skipping.{skip_within}
 use Rattle.program_definition.specs.Worked.{LongListHasItsProgram, PairHasItsProgram, ReaderHasItsProgram, RenamedHasItsProgram}

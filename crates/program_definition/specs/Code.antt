@@ -1,8 +1,8 @@
 -- The program of a pair of schemas: X(0, 0) and HALT, then the routines in the order in which they were first called
 -- for. This project's own.
 use Rattle.std.specs.Prelude.{ℕ, zero, suc, ◌+◌, Bool, true, false, ◌&&◌, List, [], ◌∷◌, ◌++◌, length, Option, Some, None, if◌then◌else◌, slice_get}
-use Rattle.avro_types.specs.Node.{Node}
-use Rattle.resolver.specs.Options.{given}
+use Rattle.spec_avro.specs.Node.{Node}
+use Rattle.spec_avro.specs.Options.{given}
 use Rattle.isa.specs.declared.limits.TheConstants.{MOST_INSTRS}
 use Rattle.isa.specs.Judging.{is_within_limits}
 use Rattle.isa.specs.Program.{Program}

@@ -1,6 +1,6 @@
 -- When there is no program. This project's own.
 use Rattle.std.specs.Prelude.{◌≡◌, ℕ, true, false, List, [], ◌∷◌, Some, None}
-use Rattle.avro_types.specs.Node.{Node}
+use Rattle.spec_avro.specs.Node.{Node}
 use Rattle.isa.specs.Judging.{is_within_limits}
 use Rattle.isa.specs.Program.{Program}
 use Rattle.program_definition.specs.Code.{are_whole, code_of, statements_of, reached, start_in}

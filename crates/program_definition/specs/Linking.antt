@@ -1,6 +1,6 @@
 -- What the program of a pair is, address by address, and that it is a program. All of this is this project's own.
 use Rattle.std.specs.Prelude.{◌≡◌, ℕ, true, List, Some}
-use Rattle.avro_types.specs.Node.{Node}
+use Rattle.spec_avro.specs.Node.{Node}
 use Rattle.isa.specs.Program.{Program}
 use Rattle.isa.specs.Range.{IsProgram}
 use Rattle.program_definition.specs.Code.{code_of, start_in}

@@ -1,6 +1,6 @@
 -- K(w): the code that reads a datum of the writer's node w and writes nothing. This project's own.
 use Rattle.std.specs.Prelude.{ℕ, zero, suc, List, [], ◌∷◌, ◌++◌, length, map, Option, Some, None, slice_get}
-use Rattle.avro_types.specs.Node.{Node, FieldNode, NullNode, BooleanNode, IntNode, LongNode, BytesNode, TextNode, FixedNode, EnumNode, ArrayNode, MapNode, UnionNode, RecordNode}
+use Rattle.spec_avro.specs.Node.{Node, FieldNode, NullNode, BooleanNode, IntNode, LongNode, BytesNode, TextNode, FixedNode, EnumNode, ArrayNode, MapNode, UnionNode, RecordNode}
 use Rattle.isa.specs.declared.instr.Instr.TheVariants as op
 use Rattle.program_definition.specs.Statements.{Statement, Op, Call, Lost, Skip, branched, looped}
 

@@ -1,19 +1,18 @@
 -- Code that reads a datum of the writer's and writes what the reader makes of it, as it is in a program.
 -- All of this is this project's own.
 use Rattle.std.specs.Prelude.{◌≡◌, ℕ, suc, ◌+◌, ◌<◌, pos, true, false, List, [], ◌∷◌, length, Option, Some, None, slice_get}
-use Rattle.avro_bytes.specs.Shortest.{shortest}
-use Rattle.avro_types.specs.Datum.{Datum}
-use Rattle.avro_types.specs.Node.{Node, Names, FieldNode, NullNode, BooleanNode, IntNode, LongNode, BytesNode, TextNode}
-use Rattle.avro_types.specs.Node.{FixedNode, EnumNode, ArrayNode, MapNode, UnionNode, RecordNode}
-use Rattle.avro_types.specs.WellFormed.{is_union}
-use Rattle.avro_datum.specs.Writing.{written}
-use Rattle.avro_bytes.specs.declared.mismatch.MismatchKind.TheVariants as kinds
-use Rattle.resolver.specs.declared.pairing.Partner.{Partner}
-use Rattle.resolver.specs.declared.pairing.Route.{Route}
-use Rattle.resolver.specs.declared.place.Destination.TheVariants.{Straight, IntoMember, Nowhere, Unmatched}
-use Rattle.resolver.specs.Matching.{place}
-use Rattle.resolver.specs.Partners.{has_partner, routes}
-use Rattle.resolver.specs.Resolution.{lacking, symbol_for}
+use Rattle.spec_avro.specs.Shortest.{shortest}
+use Rattle.spec_avro.specs.Datum.{Datum}
+use Rattle.spec_avro.specs.Node.{Node, Names, FieldNode, NullNode, BooleanNode, IntNode, LongNode, BytesNode, TextNode, FixedNode, EnumNode, ArrayNode, MapNode, UnionNode, RecordNode}
+use Rattle.spec_avro.specs.WellFormed.{is_union}
+use Rattle.spec_avro.specs.Writing.{written}
+use Rattle.spec_avro.specs.declared.mismatch.MismatchKind.TheVariants as kinds
+use Rattle.spec_avro.specs.declared.place.Partner.{Partner}
+use Rattle.spec_avro.specs.declared.place.Route.{Route}
+use Rattle.spec_avro.specs.declared.place.Destination.TheVariants.{Straight, IntoMember, Nowhere, Unmatched}
+use Rattle.spec_avro.specs.Matching.{place}
+use Rattle.spec_avro.specs.Partners.{has_partner, routes}
+use Rattle.spec_avro.specs.Resolution.{lacking, symbol_for}
 use Rattle.isa.specs.declared.entry.Entry.{Entry}
 use Rattle.isa.specs.declared.entry.Entry.TheVariants as entries
 use Rattle.isa.specs.declared.instr.Instr.TheVariants as op

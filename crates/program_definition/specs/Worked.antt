@@ -1,8 +1,8 @@
 -- Worked pairs, and their programs as the compiler's table gives them. All of this is this project's own.
 use Rattle.std.specs.Prelude.{◌≡◌, ℕ, pos, List, [], ◌∷◌, Some, None}
-use Rattle.avro_types.specs.Datum.{LongDatum}
-use Rattle.avro_types.specs.Node.{Node, Names, FieldNode, NullNode, LongNode, TextNode, BytesNode, UnionNode, ArrayNode, RecordNode, EnumNode}
-use Rattle.avro_bytes.specs.declared.mismatch.MismatchKind.TheVariants as kinds
+use Rattle.spec_avro.specs.Datum.{LongDatum}
+use Rattle.spec_avro.specs.Node.{Node, Names, FieldNode, NullNode, LongNode, TextNode, BytesNode, UnionNode, ArrayNode, RecordNode, EnumNode}
+use Rattle.spec_avro.specs.declared.mismatch.MismatchKind.TheVariants as kinds
 use Rattle.isa.specs.declared.entry.Entry.TheVariants as entries
 use Rattle.isa.specs.declared.instr.Instr.TheVariants as op
 use Rattle.isa.specs.Program.{Program}

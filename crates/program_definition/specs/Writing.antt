@@ -1,17 +1,17 @@
 -- X(w, r): the code that reads a datum of the writer's node w and writes what the reader's node r makes of it. This
 -- project's own.
 use Rattle.std.specs.Prelude.{ℕ, zero, suc, pos, Bool, true, false, List, [], ◌∷◌, ◌++◌, length, map, Option, Some, None, if◌then◌else◌, slice_get}
-use Rattle.avro_bytes.specs.Shortest.{shortest}
-use Rattle.avro_types.specs.Node.{Node, FieldNode, NullNode, BooleanNode, IntNode, LongNode, BytesNode, TextNode, FixedNode, EnumNode, ArrayNode, MapNode, UnionNode, RecordNode}
-use Rattle.avro_datum.specs.Writing.{written}
-use Rattle.avro_bytes.specs.declared.mismatch.MismatchKind.TheVariants as kinds
-use Rattle.resolver.specs.declared.pairing.Route.{Route}
-use Rattle.resolver.specs.declared.place.Destination.{Destination}
-use Rattle.resolver.specs.declared.place.Destination.TheVariants.{Straight, IntoMember, Nowhere, Unmatched}
-use Rattle.resolver.specs.Matching.{both_items, both_values, place}
-use Rattle.resolver.specs.Options.{given}
-use Rattle.resolver.specs.Partners.{has_partner, routes}
-use Rattle.resolver.specs.Resolution.{symbol_for, field_lists, lacking}
+use Rattle.spec_avro.specs.Shortest.{shortest}
+use Rattle.spec_avro.specs.Node.{Node, FieldNode, NullNode, BooleanNode, IntNode, LongNode, BytesNode, TextNode, FixedNode, EnumNode, ArrayNode, MapNode, UnionNode, RecordNode}
+use Rattle.spec_avro.specs.Writing.{written}
+use Rattle.spec_avro.specs.declared.mismatch.MismatchKind.TheVariants as kinds
+use Rattle.spec_avro.specs.declared.place.Route.{Route}
+use Rattle.spec_avro.specs.declared.place.Destination.{Destination}
+use Rattle.spec_avro.specs.declared.place.Destination.TheVariants.{Straight, IntoMember, Nowhere, Unmatched}
+use Rattle.spec_avro.specs.Matching.{both_items, both_values, place}
+use Rattle.spec_avro.specs.Options.{given}
+use Rattle.spec_avro.specs.Partners.{has_partner, routes}
+use Rattle.spec_avro.specs.Resolution.{symbol_for, field_lists, lacking}
 use Rattle.isa.specs.declared.instr.Instr.TheVariants as op
 use Rattle.program_definition.specs.Statements.{Statement, Op, Put, Miss, BytesText, Enum, Call, Lost, Target, To, Lacks, Section, Main, Write, Skip, branched, looped, miss}
 use Rattle.program_definition.specs.Skipping.{K, skip_routine}

@@ -2,8 +2,7 @@
 
 ghost use Rattle.program_definition.specs.Limits.{NoStatementIsLost, NoneByLimitsAlone, SectionsAreFound};
 ghost use Rattle.program_definition.specs.Linking.{ProgramIsInRange, ProgramIsLinked};
-ghost use Rattle.program_definition.specs.Worked.{LongListHasItsProgram, PairHasItsProgram, ReaderHasItsProgram};
-ghost use Rattle.program_definition.specs.Worked.{RenamedHasItsProgram};
+ghost use Rattle.program_definition.specs.Worked.{LongListHasItsProgram, PairHasItsProgram, ReaderHasItsProgram, RenamedHasItsProgram};
 
 use avro_types::Nodes;
 

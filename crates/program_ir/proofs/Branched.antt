@@ -1,7 +1,7 @@
 -- A branch, and the parts that it goes to.
 use Rattle.std.proofs.Common.{◌≡◌, ◌++◌, ◌∷◌, [], ℕ, zero, suc, ◌+◌, List, length, ap, ◌∙◌, append_assoc, append-nil, arith, length-append, refl}
 use Rattle.std.specs.Global.{Vec}
-use Rattle.avro_types.specs.Node.{Node}
+use Rattle.spec_avro.specs.Node.{Node}
 use Rattle.isa.specs.declared.instr.Instr.TheVariants as op
 use Rattle.program_definition.specs.Statements.{Statement, Ahead, Branch, begins, branched, one_of}
 use Rattle.program_ir.specs.declared.statements.Statement as rust

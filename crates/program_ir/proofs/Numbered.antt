@@ -6,10 +6,10 @@ use Rattle.std.proofs.lemmas.List.{length-map, map-append}
 use Rattle.std.specs.declared.cmp.Ordering.{Ordering}
 use Rattle.std.specs.declared.cmp.Ordering.TheVariants.{Less, Equal, Greater}
 use Rattle.std.specs.Ordering.{is_eq, nat_cmp, ordering_then}
-use Rattle.resolver.specs.Options.{or_else}
+use Rattle.spec_avro.specs.Options.{or_else}
 use Rattle.program_definition.specs.Statements.{Section, Write, Skip}
 use Rattle.program_definition.specs.Numbering.{adding, calls_of, has, named_in, same_section}
-use Rattle.avro_types.specs.Node.{Node}
+use Rattle.spec_avro.specs.Node.{Node}
 use Rattle.program_ir.specs.declared.statements.Statement as rust
 use Rattle.program_ir.specs.declared.statements.Section as parts
 use Rattle.program_ir.specs.Statements.{statement_of, statements_in, section_of}

@@ -9,13 +9,13 @@ use Rattle.std.specs.Ordering.{is_eq, nat_cmp, ordering_then}
 use Rattle.std.specs.Str.{bytes_eq}
 use Rattle.std.proofs.lemmas.Map.Text.{is_eq-slice_cmp}
 use Rattle.std.proofs.Math.Seq.{drop-cons}
-use Rattle.avro_types.specs.Node.{Node}
+use Rattle.spec_avro.specs.Node.{Node}
 use Rattle.isa.specs.declared.entry.Entry.TheVariants as entries
-use Rattle.resolver.specs.Options.{given, or_else}
-use Rattle.avro_bytes.specs.declared.mismatch.MismatchKind.TheVariants as kinds
-use Rattle.resolver.specs.Resolution.{symbol_for as position_of_symbol}
-use Rattle.avro_bytes.specs.MismatchKind.{code_of as code_of_kind}
-use Rattle.avro_bytes.specs.declared.mismatch.Mismatch.{Mismatch}
+use Rattle.spec_avro.specs.Options.{given, or_else}
+use Rattle.spec_avro.specs.declared.mismatch.MismatchKind.TheVariants as kinds
+use Rattle.spec_avro.specs.Resolution.{symbol_for as position_of_symbol}
+use Rattle.spec_avro.specs.MismatchKind.{code_of as code_of_kind}
+use Rattle.spec_avro.specs.declared.mismatch.Mismatch.{Mismatch}
 use Rattle.program_definition.specs.Statements.{Lacks, To, miss}
 use Rattle.program_definition.specs.Numbering.{adding, entry_of, has, number, same_miss}
 use Rattle.program_definition.specs.Writing.{target}

@@ -1,15 +1,15 @@
 -- Statements as the program's definition has them. This project's own.
 use Rattle.std.specs.Prelude.{ℕ, zero, suc, ◌<◌, ◌++◌, ◌∷◌, pos, List, [], map, Option, Some, None, IfSome, slice_get}
 use Rattle.std.specs.Global.{Vec}
-use Rattle.avro_bytes.specs.Shortest.{shortest}
-use Rattle.avro_types.specs.Node.{Node, FieldNode, EnumNode, RecordNode}
-use Rattle.avro_types.specs.declared.limits.TheConstants.{MOST_FIELDS}
-use Rattle.avro_datum.specs.Writing.{written}
+use Rattle.spec_avro.specs.Shortest.{shortest}
+use Rattle.spec_avro.specs.Node.{Node, FieldNode, EnumNode, RecordNode}
+use Rattle.spec_avro.specs.declared.limits.TheConstants.{MOST_FIELDS}
+use Rattle.spec_avro.specs.Writing.{written}
 use Rattle.isa.specs.declared.instr.Instr.{Instr}
 use Rattle.isa.specs.declared.instr.Instr.TheVariants as op
-use Rattle.resolver.specs.declared.pairing.Route.{Route}
-use Rattle.resolver.specs.Options.{given}
-use Rattle.avro_bytes.specs.declared.mismatch.MismatchKind.TheVariants as kinds
+use Rattle.spec_avro.specs.declared.place.Route.{Route}
+use Rattle.spec_avro.specs.Options.{given}
+use Rattle.spec_avro.specs.declared.mismatch.MismatchKind.TheVariants as kinds
 use Rattle.program_ir.specs.declared.statements.Constant.{Constant}
 use Rattle.program_ir.specs.declared.statements.Constant.TheVariants as constants
 use Rattle.program_ir.specs.declared.statements.Go.{Go}

@@ -8,9 +8,9 @@ use Rattle.std.specs.Global.{Vec}
 use Rattle.std.specs.Str.{bytes_eq}
 use Rattle.isa.specs.declared.entry.Entry.{Entry}
 use Rattle.isa.specs.declared.entry.Entry.TheVariants as entries
-use Rattle.resolver.specs.Options.{given}
-use Rattle.avro_bytes.specs.MismatchKind.{code_of as code_of_kind}
-use Rattle.avro_bytes.specs.declared.mismatch.Mismatch.{Mismatch}
+use Rattle.spec_avro.specs.Options.{given}
+use Rattle.spec_avro.specs.MismatchKind.{code_of as code_of_kind}
+use Rattle.spec_avro.specs.declared.mismatch.Mismatch.{Mismatch}
 use Rattle.program_definition.specs.Numbering.{has, number, same_miss}
 use Rattle.program_ir.specs.declared.constants.Constants.TheInside as constants
 use Rattle.program_ir.specs.declared.misses.Misses.TheInside as misses

@@ -2,8 +2,7 @@
 
 ghost use Rattle.std.specs.Prelude.{◌≡◌, ◌++◌, ◌∷◌, [], None, length, OnErr, OnOk};
 ghost use Rattle.program_definition.specs.Numbering.{adding, number, same_miss};
-ghost use Rattle.program_ir.specs.Tables.{found};
-ghost use Rattle.program_ir.specs.Tables.{key_of as key_of_miss};
+ghost use Rattle.program_ir.specs.Tables.{found, key_of as key_of_miss};
 
 use avro_bytes::Mismatch;
 use std::alloc::{AllocError, Global};
@@ -26,7 +25,7 @@ pub struct Misses {
 
 impl Model for Misses {
     ghost use Rattle.std.specs.Prelude.{List};
-    ghost use Rattle.avro_bytes.specs.declared.mismatch.Mismatch.{Mismatch};
+    ghost use Rattle.spec_avro.specs.declared.mismatch.Mismatch.{Mismatch};
     ghost use Rattle.program_ir.specs.Tables.{AreMisses};
 
     ghost Value = { List Mismatch };

@@ -1,7 +1,7 @@
 //! The sections that statements call, each once.
 
 ghost use Rattle.std.specs.Prelude.{◌≡◌, ◌++◌, ◌∷◌, List, [], None, Some, option_map, slice_get, IfOk, OnOk};
-ghost use Rattle.avro_types.specs.Node.{Node};
+ghost use Rattle.spec_avro.specs.Node.{Node};
 ghost use Rattle.program_definition.specs.Statements.{Main, Skip, Write};
 ghost use Rattle.program_definition.specs.Numbering.{adding, calls_of, named_in, same_section};
 ghost use Rattle.program_ir.specs.Statements.{statement_of, statements_in, section_of};

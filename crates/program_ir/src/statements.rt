@@ -1,7 +1,7 @@
 //! Statements of the intermediate representation, and how they make loops, branches, records and routines.
 
 ghost use Rattle.std.specs.Prelude.{◌≡◌, ◌++◌, ◌∷◌, ◌<◌, List, [], IfSome, OnOk, length, slice_get};
-ghost use Rattle.avro_types.specs.Node.{Node};
+ghost use Rattle.spec_avro.specs.Node.{Node};
 ghost use Rattle.program_definition.specs.Statements.{branched, looped, miss};
 ghost use Rattle.program_ir.specs.Statements.{HasSlot, go_of, jump_statements, statement_of, statements_in, parts_in, record_statement, routine_statements, slot_statements};
 

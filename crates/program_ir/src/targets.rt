@@ -4,7 +4,7 @@ ghost use Rattle.std.specs.Prelude.{◌≡◌, ◌≤◌, length, map, slice_get
 ghost use Rattle.program_definition.specs.Numbering.{entry_of};
 ghost use Rattle.program_definition.specs.Writing.{target};
 ghost use Rattle.program_ir.specs.Tables.{entry_at};
-ghost use Rattle.resolver.specs.Resolution.{symbol_for as position_of_symbol};
+ghost use Rattle.spec_avro.specs.Resolution.{symbol_for as position_of_symbol};
 
 use crate::misses::Misses;
 use avro_bytes::{Mismatch, MismatchKind};

@@ -1,17 +1,16 @@
 -- An answer is written as what is resolved, and that conforms and can be written.
 use Rattle.std.proofs.Common.{◌≤◌, ℕ, List, lit≤, sym, subst, arith}
-use Rattle.avro_bytes.specs.declared.limits.TheConstants.{MOST_CONTENT}
-use Rattle.avro_types.specs.Conforming.{Conforms}
-use Rattle.avro_types.specs.Datum.{Datum}
-use Rattle.avro_types.specs.Node.{Node}
-use Rattle.avro_types.specs.WellFormed.{IsWellFormed}
-use Rattle.avro_types.specs.declared.limits.TheConstants.{MOST_TEXT}
-use Rattle.avro_types.specs.Sizes.{DefaultsHaveSizesWithin}
+use Rattle.spec_avro.specs.declared.limits.TheConstants.{MOST_CONTENT, MOST_TEXT}
+use Rattle.spec_avro.specs.Conforming.{Conforms}
+use Rattle.spec_avro.specs.Datum.{Datum}
+use Rattle.spec_avro.specs.Node.{Node}
+use Rattle.spec_avro.specs.WellFormed.{IsWellFormed}
+use Rattle.spec_avro.specs.Sizes.{DefaultsHaveSizesWithin}
 use Rattle.avro_types.specs.Laws.LargerSizes.{defaults-within}
-use Rattle.avro_datum.specs.Conforming.{IsWritable, most_items}
-use Rattle.avro_datum.specs.Spelling.{Spells, units_of}
-use Rattle.avro_datum.specs.Writing.{written}
-use Rattle.resolver.specs.Conforming.{AnswersAreSpelled, ResolutionIsWhole}
+use Rattle.spec_avro.specs.Writable.{IsWritable, most_items}
+use Rattle.spec_avro.specs.Spelling.{Spells, units_of}
+use Rattle.spec_avro.specs.Writing.{written}
+use Rattle.spec_avro.specs.Answers.{AnswersAreSpelled, ResolutionIsWhole}
 use Rattle.resolver.proofs.Writable.{datum_writable}
 
 abbrev AreOfType : Type 0

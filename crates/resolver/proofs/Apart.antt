@@ -5,10 +5,10 @@ use Rattle.std.specs.Str.{bytes_eq}
 use Rattle.std.proofs.lemmas.Map.Keys.{IsDistinct-head, IsDistinct-tail}
 use Rattle.std.proofs.lemmas.Slice.Eq.{bytes_eq-Decides}
 use Rattle.avro_types.specs.Laws.Placed.{none-used, place-some}
-use Rattle.avro_types.specs.Node.{FieldNode}
-use Rattle.avro_types.specs.Symbols.{place_of}
-use Rattle.avro_types.specs.WellFormed.{HaveDistinctNames}
-use Rattle.resolver.specs.Partners.{PartnersAreApart, by_alias, by_name, field_names, first_free, taken_by, with_aliases}
+use Rattle.spec_avro.specs.Node.{FieldNode}
+use Rattle.spec_avro.specs.Symbols.{place_of}
+use Rattle.spec_avro.specs.WellFormed.{HaveDistinctNames}
+use Rattle.spec_avro.specs.Partners.{PartnersAreApart, by_alias, by_name, field_names, first_free, taken_by, with_aliases}
 use Rattle.resolver.proofs.Holding.{used_there}
 
 -- ---- lists

@@ -1,9 +1,9 @@
 -- Matching is the rule: items and values come later or are of named types, so the steps suffice.
 use Rattle.std.proofs.Common.{◌≡◌, ℕ, zero, suc, ◌+◌, ◌≤◌, Bool, true, false, ◌||◌, List, [], ◌∷◌, length, Option, Some, None, refl, sym, ap, subst, ◌∙◌, inl, inr, slice_get, arith}
-use Rattle.avro_types.specs.Node.{Node, ArrayNode, MapNode}
-use Rattle.avro_types.specs.WellFormed.{HoldsItem, IsWellFormed, NodeIsWellFormed, is_named}
-use Rattle.resolver.specs.Matching.{MatchesByRule, both_items, both_match, both_values, kinds_match, matches, matches_within, rule}
-use Rattle.resolver.specs.Options.{given}
+use Rattle.spec_avro.specs.Node.{Node, ArrayNode, MapNode}
+use Rattle.spec_avro.specs.WellFormed.{HoldsItem, IsWellFormed, NodeIsWellFormed, is_named}
+use Rattle.spec_avro.specs.Matching.{MatchesByRule, both_items, both_match, both_values, kinds_match, matches, matches_within, rule}
+use Rattle.spec_avro.specs.Options.{given}
 
 -- the item of an array or the value of a map
 abbrev Holds : Node → ℕ → Type 0

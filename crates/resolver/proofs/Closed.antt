@@ -4,10 +4,10 @@ use Rattle.std.proofs.lemmas.List.{take-append-le, take_more, length-append}
 use Rattle.std.proofs.Math.Seq.{take-length}
 use Rattle.resolver.specs.Pairs.{Listed, Adds, AddsAll}
 use Rattle.std.specs.List.{AllByRecursion}
-use Rattle.avro_types.specs.Node.{Node}
+use Rattle.spec_avro.specs.Node.{Node}
 use Rattle.resolver.proofs.Leading.{among_leads, bad_told, leads_among}
 use Rattle.resolver.specs.NextPairs.{Among, next_pairs, is_bad, unless}
-use Rattle.resolver.specs.Safety.{Pair, Reached, root, step, IsSafe}
+use Rattle.spec_avro.specs.Safety.{Pair, Reached, root, step, IsSafe}
 
 -- good, and all that comes next is there
 abbrev pub IsFine : List Node → List Node → List Pair → Pair → Type 0

@@ -2,10 +2,12 @@
 use Rattle.std.proofs.Common.{◌≡◌, ◌⊎◌, inl, inr, List, [], ◌∷◌, ◌++◌, length, option_map, Option, Some, refl, sym, ap, ◌∙◌}
 use Rattle.avro_types.specs.declared.datum.Datum as rust
 use Rattle.avro_types.specs.declared.kind.Field.{Field}
-use Rattle.avro_types.specs.Node.{FieldNode, field_of, fields_of}
-use Rattle.avro_types.specs.Datum.{Datum, Data, no_more, more, datum_of, data_of}
-use Rattle.resolver.specs.Options.{given, or_else}
-use Rattle.resolver.specs.Resolution.{filled}
+use Rattle.spec_avro.specs.Node.{FieldNode}
+use Rattle.avro_types.specs.Node.{field_of, fields_of}
+use Rattle.spec_avro.specs.Datum.{Datum, Data, no_more, more}
+use Rattle.avro_types.specs.Datum.{datum_of, data_of}
+use Rattle.spec_avro.specs.Options.{given, or_else}
+use Rattle.spec_avro.specs.Resolution.{filled}
 use Rattle.resolver.specs.Steps.{slots_of}
 use Rattle.resolver.proofs.Items.{joined, joined_end, joined_push, no_length}
 

@@ -1,9 +1,9 @@
 -- Which nodes of the reader match a node of the writer, where that is no union.
 use Rattle.std.proofs.Common.{◌≡◌, ℕ, Bool, true, false, ◌==◌, ◌&&◌, ◌||◌, List, Option, Some, refl, sym, ap, ◌∙◌, ◌⊎◌, inl, inr, slice_get, length, arith}
 use Rattle.std.proofs.lemmas.Bool.Decides.{nat_tests}
-use Rattle.avro_types.specs.Node.{Node, Names, FieldNode, NullNode, BooleanNode, IntNode, LongNode, BytesNode, TextNode, FixedNode, EnumNode, ArrayNode, MapNode, UnionNode, RecordNode}
-use Rattle.avro_types.specs.WellFormed.{is_union}
-use Rattle.resolver.specs.Matching.{both_match, have_matching_names, matches, matches_within}
+use Rattle.spec_avro.specs.Node.{Node, Names, FieldNode, NullNode, BooleanNode, IntNode, LongNode, BytesNode, TextNode, FixedNode, EnumNode, ArrayNode, MapNode, UnionNode, RecordNode}
+use Rattle.spec_avro.specs.WellFormed.{is_union}
+use Rattle.spec_avro.specs.Matching.{both_match, have_matching_names, matches, matches_within}
 
 -- what a reader's node is that matches a writer's
 abbrev pub Fits : Node → Option Node → Type 0

@@ -3,12 +3,12 @@ use Rattle.std.proofs.Common.{◌≡◌, ℕ, zero, suc, ◌==◌, Bool, true, f
 use Rattle.std.specs.Str.{bytes_eq}
 use Rattle.std.proofs.lemmas.Bool.Decides.{nat_tests}
 use Rattle.std.proofs.lemmas.Slice.Eq.{bytes_eq-Decides}
-use Rattle.avro_types.specs.FullNames.{unqualified}
-use Rattle.avro_types.specs.Node.{Node, Names, NullNode, BooleanNode, IntNode, LongNode, BytesNode, TextNode, FixedNode, EnumNode, ArrayNode, MapNode, UnionNode, RecordNode}
-use Rattle.avro_types.specs.Symbols.{is_used}
-use Rattle.avro_types.specs.WellFormed.{IsWellFormed, is_union}
-use Rattle.resolver.specs.Matches.{IsPrimitive, Matches, MatchesWhereItHolds, NamesMatch, alias, arrays, bytes_to_string, enums, fixed, int_to_long, maps, primitive, readers_union, records, string_to_bytes, unqualified_names, writers_union}
-use Rattle.resolver.specs.Matching.{both_match, have_matching_names, kinds_match, matches, matches_within, names_match, primitives_match, rule}
+use Rattle.spec_avro.specs.FullNames.{unqualified}
+use Rattle.spec_avro.specs.Node.{Node, Names, NullNode, BooleanNode, IntNode, LongNode, BytesNode, TextNode, FixedNode, EnumNode, ArrayNode, MapNode, UnionNode, RecordNode}
+use Rattle.spec_avro.specs.Symbols.{is_used}
+use Rattle.spec_avro.specs.WellFormed.{IsWellFormed, is_union}
+use Rattle.spec_avro.specs.Matches.{IsPrimitive, Matches, MatchesWhereItHolds, NamesMatch, alias, arrays, bytes_to_string, enums, fixed, int_to_long, maps, primitive, readers_union, records, string_to_bytes, unqualified_names, writers_union}
+use Rattle.spec_avro.specs.Matching.{both_match, have_matching_names, kinds_match, matches, matches_within, names_match, primitives_match, rule}
 use Rattle.resolver.proofs.ByRule.{by_rule}
 
 either : (a b : Bool) → (a || b) ≡ true → (a ≡ true) ⊎ (b ≡ true)

@@ -2,11 +2,13 @@
 use Rattle.std.proofs.Common.{◌≡◌, ℕ, List, [], ◌∷◌, ◌++◌, length, Ok, Err, refl, sym, ap, ◌∙◌, arith, String, Global, string_bytes}
 use Rattle.std.specs.Global.{Vec}
 use Rattle.avro_types.specs.declared.datum.Datum as rust
-use Rattle.avro_types.specs.Node.{Node}
-use Rattle.avro_types.specs.Datum.{Datum, Data, Pairs, no_more, more, no_pairs, pair, datum_of, data_of, pairs_of}
+use Rattle.spec_avro.specs.Node.{Node}
+use Rattle.spec_avro.specs.Datum.{Datum, Data, Pairs, no_more, more, no_pairs, pair}
+use Rattle.avro_types.specs.Datum.{datum_of, data_of, pairs_of}
 use Rattle.resolver.specs.declared.mismatch.ResolveError.{ResolveError}
 use Rattle.resolver.specs.declared.mismatch.ResolveError.TheVariants as errors
-use Rattle.resolver.specs.Resolution.{Resolved, ◌>>=◌, Resolves, resolved, resolved_items, resolved_values}
+use Rattle.spec_avro.specs.Resolution.{Resolved, ◌>>=◌, resolved, resolved_items, resolved_values}
+use Rattle.resolver.specs.Resolution.{Resolves}
 
 -- data after data
 abbrev pub joined : Data → Data → Data

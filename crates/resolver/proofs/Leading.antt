@@ -1,17 +1,17 @@
 -- The list of next pairs, and the test for bad ones, say what the relations say.
 use Rattle.std.proofs.Common.{◌≡◌, ℕ, zero, suc, Bool, true, false, ◌||◌, List, [], ◌∷◌, ◌++◌, map, slice_get, Option, Some, None, is_none, is_some, option_to_list, refl, sym, ap, subst, ◌∙◌, inl, inr, ◌⊎◌}
-use Rattle.avro_types.specs.Node.{Node, FieldNode, EnumNode, UnionNode}
-use Rattle.avro_types.specs.WellFormed.{is_union}
-use Rattle.resolver.specs.declared.pairing.Partner.{Partner}
-use Rattle.resolver.specs.declared.pairing.Route.{Route}
-use Rattle.resolver.specs.declared.place.Destination.{Destination}
-use Rattle.resolver.specs.declared.place.Destination.TheVariants.{Straight, IntoMember, Nowhere, Unmatched}
-use Rattle.resolver.specs.Matching.{both_items, both_values, place}
+use Rattle.spec_avro.specs.Node.{Node, FieldNode, EnumNode, UnionNode}
+use Rattle.spec_avro.specs.WellFormed.{is_union}
+use Rattle.spec_avro.specs.declared.place.Partner.{Partner}
+use Rattle.spec_avro.specs.declared.place.Route.{Route}
+use Rattle.spec_avro.specs.declared.place.Destination.{Destination}
+use Rattle.spec_avro.specs.declared.place.Destination.TheVariants.{Straight, IntoMember, Nowhere, Unmatched}
+use Rattle.spec_avro.specs.Matching.{both_items, both_values, place}
 use Rattle.resolver.specs.NextPairs.{Among, bad_from, is_bad, lacks_field, lacks_symbol, next_pairs, pairs_from, part_pairs, partner_pairs, placed_badly, placed_pairs, some_missing}
-use Rattle.resolver.specs.Options.{given}
-use Rattle.resolver.specs.Partners.{routes}
-use Rattle.resolver.specs.Resolution.{field_lists, lacking, symbol_at, symbol_for, symbol_in}
-use Rattle.resolver.specs.Safety.{GoesStraight, IsBad, LeadsTo, Pair, is_enum, no_branch, no_default, no_match, no_symbol, to_branch, to_field, to_items, to_member, to_values}
+use Rattle.spec_avro.specs.Options.{given}
+use Rattle.spec_avro.specs.Partners.{routes}
+use Rattle.spec_avro.specs.Resolution.{field_lists, lacking, symbol_at, symbol_for, symbol_in}
+use Rattle.spec_avro.specs.Safety.{GoesStraight, IsBad, LeadsTo, Pair, is_enum, no_branch, no_default, no_match, no_symbol, to_branch, to_field, to_items, to_member, to_values}
 use Rattle.resolver.proofs.Fitting.{is_a_union}
 
 -- ---- lists

@@ -3,15 +3,17 @@ use Rattle.std.proofs.Common.{◌≡◌, ℕ, zero, suc, ◌⊎◌, inl, inr, �
 use Rattle.std.proofs.lemmas.List.{length-set}
 use Rattle.std.specs.Global.{Vec}
 use Rattle.avro_types.specs.declared.datum.Datum as rust
-use Rattle.avro_types.specs.Node.{Node}
-use Rattle.avro_types.specs.Datum.{Datum, Data, no_more, more, datum_of, data_of}
+use Rattle.spec_avro.specs.Node.{Node}
+use Rattle.spec_avro.specs.Datum.{Datum, Data, no_more, more}
+use Rattle.avro_types.specs.Datum.{datum_of, data_of}
 use Rattle.resolver.specs.declared.mismatch.ResolveError.{ResolveError}
 use Rattle.resolver.specs.declared.mismatch.ResolveError.TheVariants as errors
-use Rattle.resolver.specs.declared.pairing.Partner.{Partner}
-use Rattle.resolver.specs.declared.pairing.Route.{Route}
-use Rattle.resolver.specs.Options.{given}
+use Rattle.spec_avro.specs.declared.place.Partner.{Partner}
+use Rattle.spec_avro.specs.declared.place.Route.{Route}
+use Rattle.spec_avro.specs.Options.{given}
 use Rattle.resolver.specs.Partners.{AreRoutes}
-use Rattle.resolver.specs.Resolution.{Resolved, ◌>>=◌, Resolves, Slots, resolved, resolved_fields}
+use Rattle.spec_avro.specs.Resolution.{Resolved, ◌>>=◌, Slots, resolved, resolved_fields}
+use Rattle.resolver.specs.Resolution.{Resolves}
 use Rattle.resolver.specs.Laws.Fields.{fields_on}
 use Rattle.resolver.specs.Steps.{slots_of, kept, one_field, placed_value}
 use Rattle.resolver.proofs.Items.{no_length}

@@ -7,7 +7,7 @@ use Rattle.std.proofs.Math.Nat.{mul-le-mul_right}
 use Rattle.std.proofs.lemmas.Nat.{div-mul-add, mod-mul-add}
 use Rattle.resolver.specs.Pairs.{marks}
 use Rattle.resolver.specs.NextPairs.{Among}
-use Rattle.resolver.specs.Safety.{Pair}
+use Rattle.spec_avro.specs.Safety.{Pair}
 use Rattle.resolver.proofs.Closed.{among_more, among_last}
 
 pub count_set : (bs : List Bool) (i : ℕ) → i < length bs → get_or bs i false ≡ false → marks (set bs i true) ≡ marks bs + 1

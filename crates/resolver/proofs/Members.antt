@@ -1,11 +1,11 @@
 -- The first member of a reader's union that matches, and what holds of members.
 use Rattle.std.proofs.Common.{◌≡◌, ℕ, zero, suc, ◌+◌, ◌<◌, Bool, true, false, cond, List, [], ◌∷◌, slice_get, Option, Some, refl, sym, ap, subst, length, ◌∙◌, arith}
 use Rattle.std.specs.List.{AllByRecursion}
-use Rattle.avro_types.specs.Node.{Node, UnionNode}
-use Rattle.avro_types.specs.WellFormed.{IsMember, IsWellFormed, is_union}
-use Rattle.resolver.specs.declared.place.Destination.{Destination}
-use Rattle.resolver.specs.declared.place.Destination.TheVariants.{Straight, IntoMember, Unmatched}
-use Rattle.resolver.specs.Matching.{first_member, place_at}
+use Rattle.spec_avro.specs.Node.{Node, UnionNode}
+use Rattle.spec_avro.specs.WellFormed.{IsMember, IsWellFormed, is_union}
+use Rattle.spec_avro.specs.declared.place.Destination.{Destination}
+use Rattle.spec_avro.specs.declared.place.Destination.TheVariants.{Straight, IntoMember, Unmatched}
+use Rattle.spec_avro.specs.Matching.{first_member, place_at}
 
 -- the first member that matches, at its position
 pub record Found (match : ℕ → Bool) (i : ℕ) (ms : List ℕ) (position node : ℕ) : Type 0 where

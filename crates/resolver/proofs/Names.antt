@@ -5,8 +5,8 @@ use Rattle.std.specs.Str.{bytes_eq}
 use Rattle.std.proofs.lemmas.Iterator.Adapters.{position_from-zero}
 use Rattle.avro_types.specs.declared.kind.Field.{Field}
 use Rattle.avro_types.specs.Node.{fields_of}
-use Rattle.avro_types.specs.Symbols.{place_of}
-use Rattle.resolver.specs.Partners.{field_names}
+use Rattle.spec_avro.specs.Symbols.{place_of}
+use Rattle.spec_avro.specs.Partners.{field_names}
 use Rattle.resolver.specs.Partners.{is_named}
 
 from_place : (name : List ℕ) (i : ℕ) (fs : List Field) → position_from (is_named name) i fs ≡ position_from (λ other. bytes_eq other name) i (field_names (fields_of fs))

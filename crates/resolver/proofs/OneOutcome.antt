@@ -2,16 +2,16 @@
 use Rattle.std.proofs.Common.{◌≡◌, ℕ, List, length, Ok, Err, refl, sym, ap, ◌∙◌, inl, inr, ◌⊎◌}
 use Rattle.std.proofs.lemmas.Bool.{cases_lt, lt-ltb, le-ltb}
 use Rattle.std.specs.Prelude.{nat_lt, if◌then◌else◌}
-use Rattle.avro_bytes.specs.declared.fault.MalformedKind.{MalformedKind}
-use Rattle.avro_types.specs.Datum.{Datum}
-use Rattle.avro_types.specs.Node.{Node}
-use Rattle.avro_datum.specs.Fault.{FirstFault}
-use Rattle.avro_datum.specs.Payload.{IsPayload}
-use Rattle.avro_datum.specs.Writing.{written}
-use Rattle.avro_bytes.specs.declared.mismatch.Mismatch.{Mismatch}
-use Rattle.avro_bytes.specs.Outcome.{Outcome, Done, Mismatched, Malformed, OutputTooLarge}
-use Rattle.resolver.specs.Outcome.{IsOutcome}
-use Rattle.resolver.specs.Resolution.{Resolved, resolved}
+use Rattle.spec_avro.specs.declared.malformed.MalformedKind.{MalformedKind}
+use Rattle.spec_avro.specs.Datum.{Datum}
+use Rattle.spec_avro.specs.Node.{Node}
+use Rattle.spec_avro.specs.FaultyDatum.{FirstFault}
+use Rattle.spec_avro.specs.Payload.{IsPayload}
+use Rattle.spec_avro.specs.Writing.{written}
+use Rattle.spec_avro.specs.declared.mismatch.Mismatch.{Mismatch}
+use Rattle.spec_avro.specs.Outcome.{Outcome, Done, Mismatched, Malformed, OutputTooLarge}
+use Rattle.spec_avro.specs.PayloadOutcome.{IsOutcome}
+use Rattle.spec_avro.specs.Resolution.{Resolved, resolved}
 
 -- the outcome of a datum, by what resolution makes of it
 told : Resolved Datum → Outcome

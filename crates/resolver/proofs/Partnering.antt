@@ -3,10 +3,10 @@ use Rattle.std.proofs.Common.{◌≡◌, ℕ, zero, suc, ◌+◌, Bool, true, fa
 use Rattle.std.specs.Str.{bytes_eq}
 use Rattle.std.proofs.lemmas.Slice.Eq.{bytes_eq-Decides}
 use Rattle.avro_types.specs.Laws.Placed.{place-some}
-use Rattle.avro_types.specs.Node.{FieldNode}
-use Rattle.avro_types.specs.Symbols.{is_used, place_of}
-use Rattle.resolver.specs.Options.{or_else}
-use Rattle.resolver.specs.Partners.{NamesGoFirst, OthersGoByAlias, by_alias, by_name, field_names, first_free, if_free, taken_by, with_aliases}
+use Rattle.spec_avro.specs.Node.{FieldNode}
+use Rattle.spec_avro.specs.Symbols.{is_used, place_of}
+use Rattle.spec_avro.specs.Options.{or_else}
+use Rattle.spec_avro.specs.Partners.{NamesGoFirst, OthersGoByAlias, by_alias, by_name, field_names, first_free, if_free, taken_by, with_aliases}
 use Rattle.resolver.proofs.Apart.{name_at, set_cases, unnamed}
 
 -- a position that is free, and the name that is there

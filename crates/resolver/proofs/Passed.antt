@@ -4,10 +4,10 @@ use Rattle.std.specs.List.{position_from}
 use Rattle.std.specs.Str.{bytes_eq}
 use Rattle.std.proofs.lemmas.Slice.Eq.{bytes_eq-Decides}
 use Rattle.avro_types.specs.Laws.Placed.{place-some, used-at}
-use Rattle.avro_types.specs.Node.{FieldNode}
-use Rattle.avro_types.specs.Symbols.{is_used, place_of}
-use Rattle.resolver.specs.Options.{or_else}
-use Rattle.resolver.specs.Partners.{EarlierAliasesWereTaken, by_alias, by_name, field_names, first_free, if_free, taken_by, with_aliases}
+use Rattle.spec_avro.specs.Node.{FieldNode}
+use Rattle.spec_avro.specs.Symbols.{is_used, place_of}
+use Rattle.spec_avro.specs.Options.{or_else}
+use Rattle.spec_avro.specs.Partners.{EarlierAliasesWereTaken, by_alias, by_name, field_names, first_free, if_free, taken_by, with_aliases}
 use Rattle.resolver.proofs.Apart.{name_at, one_place, set_cases}
 use Rattle.resolver.proofs.Partnering.{all_keep, free_there}
 use Rattle.resolver.proofs.Taken.{ArePlaces, by_name_places, first_takes, free_at, only_place, set_there, still}

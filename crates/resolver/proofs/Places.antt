@@ -1,13 +1,13 @@
 -- What a value in its place is.
 use Rattle.std.proofs.Common.{◌≡◌, ℕ, Bool, true, false, cond, List, slice_get, Option, Some, Ok, Err, refl, sym, ap, subst, ◌∙◌, arith}
-use Rattle.avro_types.specs.Node.{Node, UnionNode}
-use Rattle.avro_types.specs.WellFormed.{IsMember, IsWellFormed, is_union}
-use Rattle.avro_types.specs.Datum.{Datum, UnionDatum}
-use Rattle.avro_types.specs.Conforming.{Conforms}
-use Rattle.resolver.specs.declared.place.Destination.{Destination}
-use Rattle.resolver.specs.declared.place.Destination.TheVariants.{Straight, IntoMember, Nowhere, Unmatched}
-use Rattle.resolver.specs.Matching.{first_member, matches, place, place_at}
-use Rattle.resolver.specs.Resolution.{Resolved, ◌>>=◌, placed}
+use Rattle.spec_avro.specs.Node.{Node, UnionNode}
+use Rattle.spec_avro.specs.WellFormed.{IsMember, IsWellFormed, is_union}
+use Rattle.spec_avro.specs.Datum.{Datum, UnionDatum}
+use Rattle.spec_avro.specs.Conforming.{Conforms}
+use Rattle.spec_avro.specs.declared.place.Destination.{Destination}
+use Rattle.spec_avro.specs.declared.place.Destination.TheVariants.{Straight, IntoMember, Nowhere, Unmatched}
+use Rattle.spec_avro.specs.Matching.{first_member, matches, place, place_at}
+use Rattle.spec_avro.specs.Resolution.{Resolved, ◌>>=◌, placed}
 use Rattle.resolver.proofs.Fitting.{is_a_union}
 use Rattle.resolver.proofs.Members.{found, member_in, never_else, no_union_at}
 

@@ -1,9 +1,10 @@
 -- The loop over the writer's fields and their partners.
 use Rattle.std.proofs.Common.{◌≡◌, ℕ, ◌⊎◌, inl, inr, List, [], ◌∷◌, ◌++◌, length, Option, refl, sym, ap, ◌∙◌, append-nil, arith}
 use Rattle.avro_types.specs.declared.kind.Field.{Field}
-use Rattle.avro_types.specs.Node.{FieldNode, fields_of}
-use Rattle.resolver.specs.declared.pairing.Route.{Route}
-use Rattle.resolver.specs.Partners.{routes_to}
+use Rattle.spec_avro.specs.Node.{FieldNode}
+use Rattle.avro_types.specs.Node.{fields_of}
+use Rattle.spec_avro.specs.declared.place.Route.{Route}
+use Rattle.spec_avro.specs.Partners.{routes_to}
 
 no_length : {X : Type 0} (xs : List X) → length xs ≡ 0 → xs ≡ []
 no_length [] e = refl

@@ -1,15 +1,15 @@
 -- What lies in the slots of a reader's fields: data of their nodes, and one for each field that has a partner.
 use Rattle.std.proofs.Common.{◌≡◌, ℕ, zero, suc, ◌+◌, Bool, true, false, cond, ◌&&◌, not, List, [], ◌∷◌, length, slice_get, slice_set, Option, Some, None, IfSome, is_none, Ok, refl, sym, ap, subst, arith}
 use Rattle.std.specs.List.{AllByRecursion}
-use Rattle.avro_types.specs.Node.{Node, FieldNode}
-use Rattle.avro_types.specs.Datum.{Datum, Data, no_more, more, how_many}
-use Rattle.avro_types.specs.Conforming.{Conforms, ConformsEach}
-use Rattle.resolver.specs.declared.pairing.Partner.{Partner}
-use Rattle.resolver.specs.declared.pairing.Route.{Route}
-use Rattle.resolver.specs.Options.{given}
-use Rattle.resolver.specs.Partners.{has_partner, partners, routes, routes_to}
+use Rattle.spec_avro.specs.Node.{Node, FieldNode}
+use Rattle.spec_avro.specs.Datum.{Datum, Data, no_more, more, how_many}
+use Rattle.spec_avro.specs.Conforming.{Conforms, ConformsEach}
+use Rattle.spec_avro.specs.declared.place.Partner.{Partner}
+use Rattle.spec_avro.specs.declared.place.Route.{Route}
+use Rattle.spec_avro.specs.Options.{given}
+use Rattle.spec_avro.specs.Partners.{has_partner, partners, routes, routes_to}
 use Rattle.resolver.specs.Laws.Fields.{IsOneOf, IsThere, length_partners}
-use Rattle.resolver.specs.Resolution.{Slots, filled, lacking_from, lacks, no_slots, resolved}
+use Rattle.spec_avro.specs.Resolution.{Slots, filled, lacking_from, lacks, no_slots, resolved}
 
 -- the data are of the routes' nodes, one each
 abbrev pub AreOf : List Node → List Route → Data → Type 0

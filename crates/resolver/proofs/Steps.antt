@@ -2,16 +2,18 @@
 use Rattle.std.proofs.Common.{◌≡◌, ℕ, false, List, slice_get, option_map, Option, Some, None, Result, Ok, Err, refl, sym, ap, ◌∙◌, String, Global, Box}
 use Rattle.std.specs.Global.{Vec}
 use Rattle.avro_types.specs.declared.datum.Datum as rust
-use Rattle.avro_types.specs.Node.{Node, FieldNode}
-use Rattle.avro_types.specs.Datum.{Data, Pairs, ArrayDatum, MapDatum, RecordDatum, datum_of, data_of, pairs_of}
+use Rattle.spec_avro.specs.Node.{Node, FieldNode}
+use Rattle.spec_avro.specs.Datum.{Data, Pairs, ArrayDatum, MapDatum, RecordDatum}
+use Rattle.avro_types.specs.Datum.{datum_of, data_of, pairs_of}
 use Rattle.avro_types.specs.Laws.DatumOf.{datum_of-Array, datum_of-Map, datum_of-Record}
-use Rattle.avro_bytes.specs.declared.mismatch.MismatchKind.TheVariants.{NoMatch}
+use Rattle.spec_avro.specs.declared.mismatch.MismatchKind.TheVariants.{NoMatch}
 use Rattle.resolver.specs.declared.mismatch.ResolveError.{ResolveError}
 use Rattle.resolver.specs.declared.mismatch.ResolveError.TheVariants as errors
-use Rattle.resolver.specs.Matching.{both_items, both_values, place}
-use Rattle.resolver.specs.Options.{given}
-use Rattle.resolver.specs.Partners.{routes}
-use Rattle.resolver.specs.Resolution.{Resolved, ◌>>=◌, Resolves, Slots, mismatch, placed, field_lists, filled, lacking, no_slots, unless_lacking, resolved, resolved_items, resolved_values, resolved_fields}
+use Rattle.spec_avro.specs.Matching.{both_items, both_values, place}
+use Rattle.spec_avro.specs.Options.{given}
+use Rattle.spec_avro.specs.Partners.{routes}
+use Rattle.spec_avro.specs.Resolution.{Resolved, ◌>>=◌, Slots, mismatch, placed, field_lists, filled, lacking, no_slots, unless_lacking, resolved, resolved_items, resolved_values, resolved_fields}
+use Rattle.resolver.specs.Resolution.{Resolves}
 use Rattle.resolver.specs.Laws.Placed.{by_place, is_union_datum}
 use Rattle.resolver.specs.Steps.{inside, slots_of}
 

@@ -2,10 +2,10 @@
 use Rattle.std.proofs.Common.{◌≡◌, ℕ, Bool, true, false, cond, List, Option, Some, Ok, refl, sym, ap, ◌∙◌}
 use Rattle.std.specs.Str.{IsUtf8, is_utf8}
 use Rattle.std.proofs.lemmas.Str.{IsUtf8-from_is_utf8, is_utf8-from_IsUtf8}
-use Rattle.avro_types.specs.Datum.{TextDatum}
-use Rattle.avro_types.specs.Node.{Node, TextNode}
-use Rattle.avro_bytes.specs.declared.mismatch.MismatchKind.TheVariants.{BytesNotText}
-use Rattle.resolver.specs.Resolution.{bytes_for, mismatch}
+use Rattle.spec_avro.specs.Datum.{TextDatum}
+use Rattle.spec_avro.specs.Node.{Node, TextNode}
+use Rattle.spec_avro.specs.declared.mismatch.MismatchKind.TheVariants.{BytesNotText}
+use Rattle.spec_avro.specs.Resolution.{bytes_for, mismatch}
 
 pub is_text : (bytes : List ℕ) → IsUtf8 bytes → is_utf8 bytes ≡ true
 is_text bytes h = is_utf8-from_IsUtf8 bytes h

@@ -3,23 +3,22 @@ use Rattle.std.proofs.Common.{◌≡◌, ℕ, ◌+◌, ◌<◌, Bool, true, fals
 use Rattle.std.specs.Str.{is_utf8}
 use Rattle.std.proofs.lemmas.Str.{IsUtf8-from_is_utf8}
 use Rattle.avro_types.specs.Laws.Placed.{place-within}
-use Rattle.avro_types.specs.Symbols.{place_of}
-use Rattle.avro_types.specs.Node.{Node, FieldNode, NullNode, BooleanNode, IntNode, LongNode, BytesNode, TextNode, FixedNode, EnumNode, ArrayNode, MapNode, RecordNode}
-use Rattle.avro_types.specs.WellFormed.{IsWellFormed, is_union}
-use Rattle.avro_types.specs.Datum.{Datum, Data, Pairs, NullDatum, BooleanDatum, IntDatum, LongDatum, BytesDatum, TextDatum, FixedDatum, EnumDatum, ArrayDatum, MapDatum, UnionDatum, RecordDatum, no_more, more, no_pairs, pair}
-use Rattle.avro_types.specs.Conforming.{Conforms, ConformAll, ConformPairs, DefaultsConform, HasBits}
-use Rattle.avro_bytes.specs.declared.mismatch.MismatchKind.TheVariants.{NoMatch, NoSymbol, BytesNotText}
-use Rattle.resolver.specs.Matching.{both_items, both_values, matches}
-use Rattle.resolver.specs.Options.{given}
-use Rattle.resolver.specs.Resolution.{Resolved, ◌>>=◌, mismatch, int_for, text_for, bytes_for, symbol_at, symbol_for, symbol_in, member_at, field_lists, lacking, unless_lacking, resolved, resolved_items, resolved_values, resolved_fields, Slots, filled, no_slots}
-use Rattle.resolver.specs.Options.{or_else}
-use Rattle.resolver.specs.Conforming.{ResolutionIsWhole}
+use Rattle.spec_avro.specs.Symbols.{place_of}
+use Rattle.spec_avro.specs.Node.{Node, FieldNode, NullNode, BooleanNode, IntNode, LongNode, BytesNode, TextNode, FixedNode, EnumNode, ArrayNode, MapNode, RecordNode}
+use Rattle.spec_avro.specs.WellFormed.{IsWellFormed, is_union}
+use Rattle.spec_avro.specs.Datum.{Datum, Data, Pairs, NullDatum, BooleanDatum, IntDatum, LongDatum, BytesDatum, TextDatum, FixedDatum, EnumDatum, ArrayDatum, MapDatum, UnionDatum, RecordDatum, no_more, more, no_pairs, pair}
+use Rattle.spec_avro.specs.Conforming.{Conforms, ConformAll, ConformPairs, DefaultsConform, HasBits}
+use Rattle.spec_avro.specs.declared.mismatch.MismatchKind.TheVariants.{NoMatch, NoSymbol, BytesNotText}
+use Rattle.spec_avro.specs.Matching.{both_items, both_values, matches}
+use Rattle.spec_avro.specs.Options.{given, or_else}
+use Rattle.spec_avro.specs.Resolution.{Resolved, ◌>>=◌, mismatch, int_for, text_for, bytes_for, symbol_at, symbol_for, symbol_in, member_at, field_lists, lacking, unless_lacking, resolved, resolved_items, resolved_values, resolved_fields, Slots, filled, no_slots}
+use Rattle.spec_avro.specs.Answers.{ResolutionIsWhole}
 use Rattle.resolver.proofs.Fitting.{node_fits}
 use Rattle.resolver.proofs.Places.{placed_whole}
 use Rattle.resolver.specs.Laws.Fields.{GoTo, came, length_no_slots, length_routes, one_put, routes_go}
 use Rattle.resolver.proofs.Seats.{AreOf, Seated, all_filled, are_many, field_seated, fields_are_of, none_seated}
-use Rattle.resolver.specs.Partners.{has_partner, partners, routes}
-use Rattle.resolver.specs.declared.pairing.Route.{Route}
+use Rattle.spec_avro.specs.Partners.{has_partner, partners, routes}
+use Rattle.spec_avro.specs.declared.place.Route.{Route}
 
 wider : (n : ℤ) → HasBits 31 n → HasBits 63 n
 wider (pos n) h = omega arith

@@ -5,15 +5,17 @@ use Rattle.avro_types.specs.declared.kind.Field.{Field}
 use Rattle.std.specs.Global.{Vec}
 use Rattle.std.specs.declared.alloc.AllocError.{AllocError}
 use Rattle.std.specs.List.{AllByRecursion}
-use Rattle.avro_types.specs.Node.{Node, FieldNode, fields_of}
-use Rattle.avro_types.specs.WellFormed.{FieldsBelow, IsMember}
-use Rattle.resolver.specs.declared.pairing.Partner.{Partner}
-use Rattle.resolver.specs.declared.pairing.Route.{Route}
+use Rattle.spec_avro.specs.Node.{Node, FieldNode}
+use Rattle.avro_types.specs.Node.{fields_of}
+use Rattle.spec_avro.specs.WellFormed.{FieldsBelow, IsMember}
+use Rattle.spec_avro.specs.declared.place.Partner.{Partner}
+use Rattle.spec_avro.specs.declared.place.Route.{Route}
 use Rattle.resolver.specs.NextPairs.{partner_pairs, unless}
-use Rattle.resolver.specs.Options.{given}
+use Rattle.spec_avro.specs.Options.{given}
 use Rattle.resolver.specs.Pairs.{AreWithin}
-use Rattle.resolver.specs.Partners.{AreRoutes, partner_at, partners, routes, routes_to}
-use Rattle.resolver.specs.Safety.{Pair}
+use Rattle.resolver.specs.Partners.{AreRoutes}
+use Rattle.spec_avro.specs.Partners.{partner_at, partners, routes, routes_to}
+use Rattle.spec_avro.specs.Safety.{Pair}
 
 partner_within : (readers j : ℕ) (rs : List FieldNode) → FieldsBelow readers rs → IfSome (slice_get rs j) (λ g. (j < length rs) × (g.node < readers))
 partner_within readers j [] b = tt

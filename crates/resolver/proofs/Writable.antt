@@ -2,21 +2,20 @@
 use Rattle.std.proofs.Common.{◌≡◌, ◌≤◌, ℕ, zero, suc, ℤ, List, [], ◌∷◌, length, slice_get, slice_set, Option, Some, None, IfSome, Ok, refl, ap, subst, arith}
 use Rattle.std.specs.List.{AllByRecursion}
 use Rattle.std.specs.Str.{is_utf8}
-use Rattle.avro_bytes.specs.declared.limits.TheConstants.{MOST_CONTENT}
-use Rattle.avro_types.specs.Node.{Node, Names, FieldNode, LongNode, BytesNode, TextNode, RecordNode}
-use Rattle.avro_types.specs.Datum.{Datum, Data, Pairs, NullDatum, BooleanDatum, IntDatum, LongDatum, BytesDatum, TextDatum, FixedDatum, EnumDatum, ArrayDatum, MapDatum, UnionDatum, RecordDatum, no_more, more, no_pairs, pair, how_many, how_many_pairs}
-use Rattle.avro_types.specs.Sizes.{DefaultsHaveSizesWithin}
-use Rattle.avro_datum.specs.Conforming.{IsWritable, AreWritable, AreWritablePairs, most_items}
-use Rattle.avro_bytes.specs.declared.mismatch.MismatchKind.{MismatchKind}
-use Rattle.resolver.specs.declared.place.Destination.{Destination}
-use Rattle.resolver.specs.declared.place.Destination.TheVariants.{Straight, IntoMember, Nowhere, Unmatched}
-use Rattle.resolver.specs.Matching.{both_items, both_values, place}
-use Rattle.resolver.specs.Options.{given}
-use Rattle.resolver.specs.Resolution.{Resolved, mismatch, placed, int_for, text_for, bytes_for, symbol_at, member_at, field_lists, lacking, resolved, resolved_items, resolved_values, resolved_fields, Slots, filled, no_slots}
-use Rattle.resolver.specs.Options.{or_else}
-use Rattle.resolver.specs.Partners.{routes}
-use Rattle.resolver.specs.declared.pairing.Partner.{Partner}
-use Rattle.resolver.specs.declared.pairing.Route.{Route}
+use Rattle.spec_avro.specs.declared.limits.TheConstants.{MOST_CONTENT}
+use Rattle.spec_avro.specs.Node.{Node, Names, FieldNode, LongNode, BytesNode, TextNode, RecordNode}
+use Rattle.spec_avro.specs.Datum.{Datum, Data, Pairs, NullDatum, BooleanDatum, IntDatum, LongDatum, BytesDatum, TextDatum, FixedDatum, EnumDatum, ArrayDatum, MapDatum, UnionDatum, RecordDatum, no_more, more, no_pairs, pair, how_many, how_many_pairs}
+use Rattle.spec_avro.specs.Sizes.{DefaultsHaveSizesWithin}
+use Rattle.spec_avro.specs.Writable.{IsWritable, AreWritable, AreWritablePairs, most_items}
+use Rattle.spec_avro.specs.declared.mismatch.MismatchKind.{MismatchKind}
+use Rattle.spec_avro.specs.declared.place.Destination.{Destination}
+use Rattle.spec_avro.specs.declared.place.Destination.TheVariants.{Straight, IntoMember, Nowhere, Unmatched}
+use Rattle.spec_avro.specs.Matching.{both_items, both_values, place}
+use Rattle.spec_avro.specs.Options.{given, or_else}
+use Rattle.spec_avro.specs.Resolution.{Resolved, mismatch, placed, int_for, text_for, bytes_for, symbol_at, member_at, field_lists, lacking, resolved, resolved_items, resolved_values, resolved_fields, Slots, filled, no_slots}
+use Rattle.spec_avro.specs.Partners.{routes}
+use Rattle.spec_avro.specs.declared.place.Partner.{Partner}
+use Rattle.spec_avro.specs.declared.place.Route.{Route}
 use Rattle.resolver.specs.Laws.Fields.{one_put}
 use Rattle.resolver.proofs.Places.{wrapped}
 use Rattle.resolver.proofs.Whole.{bound, enum_made, made_of, none_lacks, text_or_fault, two}

@@ -1,12 +1,8 @@
 pub mod Laws
 pub mod Resolution
 pub mod Steps
-pub mod Safety
 pub mod NextPairs
 pub mod Pairs
 pub mod Outcome
-pub mod Conforming
-pub mod Matches
 pub mod Matching
-pub mod Options
 pub mod Partners

@@ -1,14 +1,14 @@
 -- What the steps of `can_read` answer: the pairs that a pair leads to as a list, and whether it is bad.
 use Rattle.std.specs.Prelude.{◌≡◌, ℕ, Bool, true, false, ◌||◌, List, [], ◌∷◌, ◌++◌, map, Option, Some, None, if◌then◌else◌, is_none, is_some, option_to_list, slice_get, ◌⊎◌}
-use Rattle.avro_types.specs.Node.{Node, EnumNode, UnionNode}
-use Rattle.resolver.specs.declared.place.Destination.{Destination}
-use Rattle.resolver.specs.declared.place.Destination.TheVariants.{Straight, IntoMember, Nowhere, Unmatched}
-use Rattle.resolver.specs.Matching.{both_items, both_values, place}
-use Rattle.resolver.specs.Options.{given}
-use Rattle.resolver.specs.Partners.{routes}
-use Rattle.resolver.specs.declared.pairing.Route.{Route}
-use Rattle.resolver.specs.Resolution.{field_lists, lacking, symbol_in}
-use Rattle.resolver.specs.Safety.{Pair}
+use Rattle.spec_avro.specs.Node.{Node, EnumNode, UnionNode}
+use Rattle.spec_avro.specs.declared.place.Destination.{Destination}
+use Rattle.spec_avro.specs.declared.place.Destination.TheVariants.{Straight, IntoMember, Nowhere, Unmatched}
+use Rattle.spec_avro.specs.Matching.{both_items, both_values, place}
+use Rattle.spec_avro.specs.Options.{given}
+use Rattle.spec_avro.specs.Partners.{routes}
+use Rattle.spec_avro.specs.declared.place.Route.{Route}
+use Rattle.spec_avro.specs.Resolution.{field_lists, lacking, symbol_in}
+use Rattle.spec_avro.specs.Safety.{Pair}
 
 abbrev pub Among : Pair → List Pair → Type 0
 Among q [] = ⊥

@@ -3,15 +3,17 @@ use Rattle.std.specs.Prelude.{ℕ, List, map, Option, Some, None, Ok, option_map
 use Rattle.std.specs.Borrow.{Bor}
 use Rattle.avro_types.specs.declared.kind.Field.{Field}
 use Rattle.avro_types.specs.declared.datum.Datum as rust
-use Rattle.avro_types.specs.Node.{Node, FieldNode, fields_of}
-use Rattle.avro_types.specs.WellFormed.{FieldsBelow, HaveDistinctNames}
-use Rattle.avro_types.specs.Datum.{Datum, NullDatum, BooleanDatum, IntDatum, LongDatum, BytesDatum, TextDatum, FixedDatum, EnumDatum, ArrayDatum, MapDatum, UnionDatum, RecordDatum, datum_of}
-use Rattle.avro_bytes.specs.declared.mismatch.MismatchKind.TheVariants.{NoMatch, NoSymbol}
-use Rattle.resolver.specs.Matching.{both_items, both_values}
-use Rattle.resolver.specs.Options.{given}
-use Rattle.resolver.specs.Partners.{routes}
-use Rattle.resolver.specs.declared.pairing.Route.{Route}
-use Rattle.resolver.specs.Resolution.{Resolved, ◌>>=◌, Slots, mismatch, int_for, text_for, bytes_for, symbol_at, symbol_for, field_lists, filled, lacking, no_slots, unless_lacking, resolved, resolved_items, resolved_values, resolved_fields}
+use Rattle.spec_avro.specs.Node.{Node, FieldNode}
+use Rattle.avro_types.specs.Node.{fields_of}
+use Rattle.spec_avro.specs.WellFormed.{FieldsBelow, HaveDistinctNames}
+use Rattle.spec_avro.specs.Datum.{Datum, NullDatum, BooleanDatum, IntDatum, LongDatum, BytesDatum, TextDatum, FixedDatum, EnumDatum, ArrayDatum, MapDatum, UnionDatum, RecordDatum}
+use Rattle.avro_types.specs.Datum.{datum_of}
+use Rattle.spec_avro.specs.declared.mismatch.MismatchKind.TheVariants.{NoMatch, NoSymbol}
+use Rattle.spec_avro.specs.Matching.{both_items, both_values}
+use Rattle.spec_avro.specs.Options.{given}
+use Rattle.spec_avro.specs.Partners.{routes}
+use Rattle.spec_avro.specs.declared.place.Route.{Route}
+use Rattle.spec_avro.specs.Resolution.{Resolved, ◌>>=◌, Slots, mismatch, int_for, text_for, bytes_for, symbol_at, symbol_for, field_lists, filled, lacking, no_slots, unless_lacking, resolved, resolved_items, resolved_values, resolved_fields}
 
 -- fields of one record in a schema of `len` nodes
 pub record AreFields (len : ℕ) (fs : List FieldNode) : Type 0 where

@@ -3,9 +3,9 @@
 ghost use Rattle.std.specs.Prelude.{◌≡◌, ◌<◌, ℕ, false, length, slice_get, slice_index_or, IfOk, IfSome, option_map};
 ghost use Rattle.avro_types.specs.Datum.{data_of, datum_of};
 ghost use Rattle.avro_types.specs.Node.{field_of, fields_of};
-ghost use Rattle.resolver.specs.Options.{or_else};
-ghost use Rattle.resolver.specs.Partners.{has_partner};
-ghost use Rattle.resolver.specs.Resolution.{field_lists, filled, lacking_from, no_slots};
+ghost use Rattle.spec_avro.specs.Options.{or_else};
+ghost use Rattle.spec_avro.specs.Partners.{has_partner};
+ghost use Rattle.spec_avro.specs.Resolution.{field_lists, filled, lacking_from, no_slots};
 ghost use Rattle.resolver.specs.Steps.{AreFields, both_lists, kept, slots_of};
 
 use crate::Route;

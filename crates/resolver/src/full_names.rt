@@ -2,8 +2,8 @@
 
 ghost use Rattle.std.specs.Prelude.{◌≡◌, ◌||◌};
 ghost use Rattle.std.specs.Str.{bytes_eq};
-ghost use Rattle.avro_types.specs.FullNames.{unqualified};
-ghost use Rattle.avro_types.specs.Symbols.{is_used};
+ghost use Rattle.spec_avro.specs.FullNames.{unqualified};
+ghost use Rattle.spec_avro.specs.Symbols.{is_used};
 
 use avro_types::{Aliases, Name};
 

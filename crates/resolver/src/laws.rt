@@ -1,11 +1,11 @@
 //! Laws of resolution, safety and outcomes. They do nothing when they run.
 
 ghost use Rattle.std.specs.Prelude.{◌≡◌, ℕ, List};
-ghost use Rattle.avro_types.specs.Node.{Node};
-ghost use Rattle.avro_bytes.specs.Outcome.{Outcome};
-ghost use Rattle.resolver.specs.Outcome.{IsOutcome};
-ghost use Rattle.resolver.specs.Safety.{SafeDataAreReadable};
-ghost use Rattle.resolver.specs.Conforming.{AnswersAreSpelled, ResolutionIsWhole};
+ghost use Rattle.spec_avro.specs.Node.{Node};
+ghost use Rattle.spec_avro.specs.Outcome.{Outcome};
+ghost use Rattle.spec_avro.specs.PayloadOutcome.{IsOutcome};
+ghost use Rattle.spec_avro.specs.Safety.{SafeDataAreReadable};
+ghost use Rattle.spec_avro.specs.Answers.{AnswersAreSpelled, ResolutionIsWhole};
 
 use avro_types::Nodes;
 

@@ -1,8 +1,10 @@
 //! Data that hold no others, for a reader's node.
 
 ghost use Rattle.std.specs.Prelude.{◌≡◌, ◌<◌, length, slice_get, string_bytes};
-ghost use Rattle.avro_types.specs.Datum.{EnumDatum, IntDatum, datum_of};
-ghost use Rattle.resolver.specs.Resolution.{Resolves, bytes_for, int_for, text_for};
+ghost use Rattle.spec_avro.specs.Datum.{EnumDatum, IntDatum};
+ghost use Rattle.avro_types.specs.Datum.{datum_of};
+ghost use Rattle.resolver.specs.Resolution.{Resolves};
+ghost use Rattle.spec_avro.specs.Resolution.{bytes_for, int_for, text_for};
 ghost use Rattle.resolver.specs.Steps.{inside};
 
 use crate::mismatch::{ResolveError, mismatched};

@@ -1,8 +1,8 @@
 //! Laws of matching and of partners. They do nothing when they run.
 
-ghost use Rattle.resolver.specs.Matches.{MatchesWhereItHolds};
-ghost use Rattle.resolver.specs.Matching.{MatchesByRule};
-ghost use Rattle.resolver.specs.Partners.{AliasesAreTaken, EarlierAliasesWereTaken, NamesGoFirst, OthersGoByAlias, PartnersAreApart};
+ghost use Rattle.spec_avro.specs.Matches.{MatchesWhereItHolds};
+ghost use Rattle.spec_avro.specs.Matching.{MatchesByRule};
+ghost use Rattle.spec_avro.specs.Partners.{AliasesAreTaken, EarlierAliasesWereTaken, NamesGoFirst, OthersGoByAlias, PartnersAreApart};
 
 /// The law that matching is the rule as the standard writes it, however deep arrays and maps nest: what `matches`
 /// computes is true exactly where the relation holds.

@@ -2,26 +2,13 @@
 
 ghost use Rattle.std.specs.Prelude.{◌≡◌, ◌<◌, length, map, position, string_bytes, IfOk, IfSome};
 ghost use Rattle.avro_types.specs.Node.{field_of, fields_of};
-ghost use Rattle.avro_types.specs.Symbols.{place_of};
+ghost use Rattle.spec_avro.specs.Symbols.{place_of};
 ghost use Rattle.resolver.specs.Partners.{is_named};
-ghost use Rattle.resolver.specs.Partners.{by_alias, by_name, field_names, first_free, partner_at, partners, route_of, routes};
+ghost use Rattle.spec_avro.specs.Partners.{by_alias, by_name, field_names, first_free, partner_at, partners, route_of, routes};
 
 use avro_types::{Field, Symbols};
+pub use spec_avro::{Partner, Route};
 use std::alloc::{AllocError, Global};
-
-/// The partner of a writer's field: its index among the reader's fields, and its node.
-#[derive(Clone, Copy, Debug, PartialEq, Eq)]
-pub struct Partner {
-    pub position: usize,
-    pub node: usize,
-}
-
-/// Where a writer's field goes: its own node, and its partner, if it has one.
-#[derive(Clone, Copy, Debug, PartialEq, Eq)]
-pub struct Route {
-    pub node: usize,
-    pub partner: Option<Partner>,
-}
 
 /// Up to this many names are compared one by one.
 const FEW: usize = 16;

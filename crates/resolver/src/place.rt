@@ -2,23 +2,12 @@
 
 ghost use Rattle.std.specs.Prelude.{◌≡◌, ◌<◌, ◌≤◌, length};
 ghost use Rattle.std.specs.List.{AllByRecursion};
-ghost use Rattle.resolver.specs.Matching.{IsNodeOf, first_member, matches, place};
+ghost use Rattle.resolver.specs.Matching.{IsNodeOf};
+ghost use Rattle.spec_avro.specs.Matching.{first_member, matches, place};
 
 use crate::rule::matches;
 use avro_types::{Kind, MOST_NODES, Nodes};
-
-/// Where a value of a writer's node goes in a reader's node.
-#[derive(Clone, Copy, Debug, PartialEq, Eq)]
-pub enum Destination {
-    /// Into the reader's node itself.
-    Straight,
-    /// Into a branch of the reader's union, at this position and with this node.
-    IntoMember { position: u32, node: usize },
-    /// Nowhere, since no branch of the reader's union matches.
-    Nowhere,
-    /// Nowhere, since the reader's node does not match.
-    Unmatched,
-}
+pub use spec_avro::Destination;
 
 /// Returns the first of a union's branches that matches a writer's node, or `Nowhere`.
 fn first_member(w: &Nodes, wn: usize, r: &Nodes, members: &[usize]) -> Destination

@@ -1,11 +1,13 @@
 //! Resolving a datum of the writer's for the reader.
 
 ghost use Rattle.std.specs.Prelude.{◌≡◌, ◌<◌, length, IfOk, IfSome, option_map};
-ghost use Rattle.avro_types.specs.Datum.{ArrayDatum, MapDatum, RecordDatum, data_of, datum_of, pairs_of};
-ghost use Rattle.resolver.specs.Matching.{place};
+ghost use Rattle.spec_avro.specs.Datum.{ArrayDatum, MapDatum, RecordDatum};
+ghost use Rattle.avro_types.specs.Datum.{data_of, datum_of, pairs_of};
+ghost use Rattle.spec_avro.specs.Matching.{place};
 ghost use Rattle.resolver.specs.Partners.{AreRoutes};
 ghost use Rattle.resolver.specs.Steps.{inside, one_field, placed_value, slots_of};
-ghost use Rattle.resolver.specs.Resolution.{Resolves, placed, resolved, resolved_fields, resolved_items, resolved_values};
+ghost use Rattle.resolver.specs.Resolution.{Resolves};
+ghost use Rattle.spec_avro.specs.Resolution.{placed, resolved, resolved_fields, resolved_items, resolved_values};
 
 use crate::fields::{empty_slots, field_lists, fill, first_lacking, keep};
 use crate::leaves::{bytes_for, enum_for, int_for, text_for};
@@ -17,7 +19,7 @@ use avro_types::{Datum, Nodes};
 use std::alloc::Global;
 
 /// Resolves a datum of a writer's node for a reader's node. A writer's union is resolved first, by its branch.
-#[tactic(auto, unfolding(crate::specs::Resolution::resolved))]
+#[tactic(auto, unfolding(spec_avro::specs::Resolution::resolved))]
 #[cycle(resolve)]
 fn resolve_at(
     alloc: Global,

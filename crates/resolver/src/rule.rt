@@ -2,8 +2,9 @@
 
 ghost use Rattle.std.specs.Prelude.{◌≡◌, ◌<◌, Some, false, length, slice_get, suc, IfSome};
 ghost use Rattle.avro_types.specs.Node.{node_of};
-ghost use Rattle.avro_types.specs.WellFormed.{is_union};
-ghost use Rattle.resolver.specs.Matching.{ArePair, both_items, both_values, kinds_match, matches, matches_within, names_match, primitives_match};
+ghost use Rattle.spec_avro.specs.WellFormed.{is_union};
+ghost use Rattle.resolver.specs.Matching.{ArePair};
+ghost use Rattle.spec_avro.specs.Matching.{both_items, both_values, kinds_match, matches, matches_within, names_match, primitives_match};
 
 use crate::full_names::have_matching_names;
 use avro_types::{Kind, Nodes};
@@ -114,7 +115,7 @@ fn kinds_match(writer: &Kind, reader: &Kind) -> bool
 
 /// Returns whether a writer's node and a reader's node match, within `steps` steps into items and values; `false`
 /// where more are needed.
-#[tactic(auto, unfolding(crate::specs::Matching::matches_within))]
+#[tactic(auto, unfolding(spec_avro::specs::Matching::matches_within))]
 fn matches_within(steps: usize, w: &Nodes, wn: usize, r: &Nodes, rn: usize) -> bool
     requires writer { wn < length w.now }
     requires reader { rn < length r.now }

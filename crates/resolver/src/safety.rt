@@ -3,10 +3,10 @@
 ghost use Rattle.std.specs.Prelude.{◌≡◌, ◌<◌, ◌↔◌, [], ◌∷◌, is_some, length, map, option_map, slice_get, IfOk, IfSome, IsTrue, OnOk};
 ghost use Rattle.avro_types.specs.Node.{fields_of};
 ghost use Rattle.resolver.specs.Pairs.{AddsAll, AreWithin};
-ghost use Rattle.resolver.specs.Partners.{routes};
+ghost use Rattle.spec_avro.specs.Partners.{routes};
 ghost use Rattle.resolver.specs.NextPairs.{is_bad, next_pairs, part_steps, partner_pairs, unless};
-ghost use Rattle.resolver.specs.Resolution.{lacking};
-ghost use Rattle.resolver.specs.Safety.{IsSafe};
+ghost use Rattle.spec_avro.specs.Resolution.{lacking};
+ghost use Rattle.spec_avro.specs.Safety.{IsSafe};
 
 use crate::fields::first_lacking;
 use crate::pairs::PairList;

@@ -1,7 +1,7 @@
 //! Symbols of enums: which one is at a position, and which the reader has.
 
 ghost use Rattle.std.specs.Prelude.{◌≡◌, ◌<◌, ◌≤◌, length, map, option_map, position, slice_get, string_bytes};
-ghost use Rattle.resolver.specs.Resolution.{symbol_at, symbol_for, symbol_in};
+ghost use Rattle.spec_avro.specs.Resolution.{symbol_at, symbol_for, symbol_in};
 ghost use Rattle.resolver.specs.NextPairs.{some_missing};
 
 use avro_types::{Kind, MOST_SYMBOLS, Nodes, Symbols};

@@ -1,7 +1,7 @@
 //! The branch of a union at a position.
 
 ghost use Rattle.std.specs.Prelude.{◌≡◌, ◌<◌, length, slice_get, IfSome};
-ghost use Rattle.resolver.specs.Resolution.{member_at};
+ghost use Rattle.spec_avro.specs.Resolution.{member_at};
 
 use avro_types::{Kind, Nodes};
 

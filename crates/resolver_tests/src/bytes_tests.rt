@@ -6,8 +6,8 @@ use crate::asked::assert_rows;
 use crate::lines::{bytes_of, debug_line, words_line};
 use avro_bytes::{
     Blob, BlockWalk, Bool, Fault, FixedBytes, Int, Long, MalformedKind, Meter, Position, Text,
-    WireForm, long_len, put_long, read_and_skip, read_boolean, read_int, read_length, read_long,
-    read_position,
+    WireForm, enter_blocks, enter_item, enter_record, long_len, put_long, read_and_skip,
+    read_boolean, read_int, read_length, read_long, read_position,
 };
 use std::alloc::{AllocError, Global};
 use std::fmt::Debug;
@@ -256,9 +256,9 @@ pub(crate) fn call_line(
     };
     match call {
         "put" => put_line(alloc, first.parse::<i64>().unwrap_or(0)),
-        "record" => debug_line(alloc, meter.enter_record(at)),
-        "item" => debug_line(alloc, meter.enter_item(at)),
-        "blocks" => debug_line(alloc, meter.enter_blocks(at)),
+        "record" => debug_line(alloc, enter_record(meter, at)),
+        "item" => debug_line(alloc, enter_item(meter, at)),
+        "blocks" => debug_line(alloc, enter_blocks(meter, at)),
         "begin" => begun_line(alloc, walk, at, meter),
         "parts" => debug_line(alloc, parts(walk)),
         _ => bytes_line(alloc, walk, call, at, units, last),

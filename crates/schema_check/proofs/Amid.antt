@@ -4,7 +4,7 @@ use Rattle.std.proofs.lemmas.Bool.{eqb-true, eq-eqb}
 use Rattle.std.specs.Prelude.{◌==◌, if◌then◌else◌}
 use Rattle.resolver.specs.NextPairs.{Among}
 use Rattle.schema_check.specs.Pairs.{is_among, is_same_pair, with_one}
-use Rattle.resolver.specs.Safety.{Pair}
+use Rattle.spec_avro.specs.Safety.{Pair}
 
 -- ---- whether a pair is among others
 

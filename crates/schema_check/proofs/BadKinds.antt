@@ -1,18 +1,18 @@
 -- The kind that is computed is the one by which the pair is bad.
 use Rattle.std.proofs.Common.{◌≡◌, ℕ, Bool, true, false, List, slice_get, Option, Some, None, refl, sym, ap, subst, ◌∙◌, inl, inr, ◌⊎◌}
-use Rattle.avro_types.specs.Node.{Node, EnumNode, UnionNode}
-use Rattle.avro_types.specs.WellFormed.{is_union}
-use Rattle.avro_bytes.specs.declared.mismatch.MismatchKind.{MismatchKind}
-use Rattle.avro_bytes.specs.declared.mismatch.MismatchKind.TheVariants.{NoMatch, NoBranch, NoSymbol, NoDefault}
-use Rattle.resolver.specs.declared.place.Destination.{Destination}
-use Rattle.resolver.specs.declared.place.Destination.TheVariants.{Straight, IntoMember, Nowhere, Unmatched}
-use Rattle.resolver.specs.Matching.{place}
+use Rattle.spec_avro.specs.Node.{Node, EnumNode, UnionNode}
+use Rattle.spec_avro.specs.WellFormed.{is_union}
+use Rattle.spec_avro.specs.declared.mismatch.MismatchKind.{MismatchKind}
+use Rattle.spec_avro.specs.declared.mismatch.MismatchKind.TheVariants.{NoMatch, NoBranch, NoSymbol, NoDefault}
+use Rattle.spec_avro.specs.declared.place.Destination.{Destination}
+use Rattle.spec_avro.specs.declared.place.Destination.TheVariants.{Straight, IntoMember, Nowhere, Unmatched}
+use Rattle.spec_avro.specs.Matching.{place}
 use Rattle.resolver.proofs.Fitting.{is_a_union}
 use Rattle.schema_check.specs.BadKinds.{BadPairsHaveKinds, IsBadBy, kind_from, kind_of, no_branch, no_default, no_match, no_symbol, placed_kind, straight_kind}
 use Rattle.resolver.specs.NextPairs.{lacks_field, lacks_symbol}
-use Rattle.resolver.specs.Resolution.{field_lists, symbol_at}
-use Rattle.resolver.specs.Safety as safe
-use Rattle.resolver.specs.Safety.{GoesStraight, IsBad, Pair}
+use Rattle.spec_avro.specs.Resolution.{field_lists, symbol_at}
+use Rattle.spec_avro.specs.Safety as safe
+use Rattle.spec_avro.specs.Safety.{GoesStraight, IsBad, Pair}
 use Rattle.schema_check.proofs.Lacking.{lack_by, lack_there, missing_by, missing_there}
 
 not_union_kind : (p : Destination) (w r : Option Node) → is_union w ≡ false → kind_from p w r ≡ placed_kind p w r

@@ -3,11 +3,11 @@ use Rattle.std.proofs.Common.{◌≡◌, ℕ, suc, ◌+◌, ◌<◌, ◌≤◌, 
 use Rattle.std.proofs.lemmas.List.{take-append-le, take_more, length-append, length-take-le}
 use Rattle.std.proofs.Math.Seq.{take-length}
 use Rattle.std.specs.List.{AllByRecursion}
-use Rattle.avro_types.specs.Node.{Node}
-use Rattle.avro_bytes.specs.declared.mismatch.MismatchKind.{MismatchKind}
+use Rattle.spec_avro.specs.Node.{Node}
+use Rattle.spec_avro.specs.declared.mismatch.MismatchKind.{MismatchKind}
 use Rattle.resolver.specs.NextPairs.{Among, next_pairs}
 use Rattle.resolver.specs.Pairs as of_nodes
-use Rattle.resolver.specs.Safety.{IsSafe, Pair, Reached}
+use Rattle.spec_avro.specs.Safety.{IsSafe, Pair, Reached}
 use Rattle.schema_check.specs.BadKinds.{IsBadBy, kind_of}
 use Rattle.schema_check.specs.BadPairs.{AreBadPairs, AreWithin, IsBadThere, IsListed, bad_among, bad_pair, entry, pair_of, pairs_of}
 use Rattle.schema_check.specs.Pairs.{AreOnce, with_all}

@@ -4,19 +4,20 @@ use Rattle.std.proofs.Math.ListN.{set}
 use Rattle.std.proofs.lemmas.Bool.{cases_eq}
 use Rattle.std.proofs.lemmas.List.{get_or-set_other, length-replicate, length-set}
 use Rattle.std.specs.List.{AllByRecursion}
-use Rattle.avro_types.specs.Node.{Node, FieldNode, Names, ArrayNode, MapNode, RecordNode, UnionNode}
-use Rattle.avro_types.specs.WellFormed.{IsMember, IsWellFormed, is_union}
-use Rattle.resolver.specs.declared.pairing.Partner.{Partner}
-use Rattle.resolver.specs.declared.pairing.Route.{Route}
-use Rattle.resolver.specs.declared.place.Destination.TheVariants.{Straight, IntoMember, Unmatched}
-use Rattle.resolver.specs.Matching.{both_items, both_values, matches, place, place_at}
-use Rattle.resolver.specs.Partners.{AreRoutes, routes}
+use Rattle.spec_avro.specs.Node.{Node, FieldNode, Names, ArrayNode, MapNode, RecordNode, UnionNode}
+use Rattle.spec_avro.specs.WellFormed.{IsMember, IsWellFormed, is_union}
+use Rattle.spec_avro.specs.declared.place.Partner.{Partner}
+use Rattle.spec_avro.specs.declared.place.Route.{Route}
+use Rattle.spec_avro.specs.declared.place.Destination.TheVariants.{Straight, IntoMember, Unmatched}
+use Rattle.spec_avro.specs.Matching.{both_items, both_values, matches, place, place_at}
+use Rattle.resolver.specs.Partners.{AreRoutes}
+use Rattle.spec_avro.specs.Partners.{routes}
 use Rattle.resolver.proofs.Fitting.{is_a_union}
 use Rattle.resolver.proofs.Members.{found, member_in, no_union_at}
 use Rattle.resolver.specs.NextPairs.{Among}
 use Rattle.resolver.specs.Pairs.{AreWithin, marks}
-use Rattle.resolver.specs.Resolution.{field_lists}
-use Rattle.resolver.specs.Safety.{LeadsTo, Pair, Reached, root, step, to_branch, to_field, to_items, to_member, to_values}
+use Rattle.spec_avro.specs.Resolution.{field_lists}
+use Rattle.spec_avro.specs.Safety.{LeadsTo, Pair, Reached, root, step, to_branch, to_field, to_items, to_member, to_values}
 use Rattle.resolver.proofs.Marks.{all_false, count_set, in_table, marks_le, none_marked, same_place}
 use Rattle.resolver.proofs.Within.{routes_within}
 use Rattle.schema_check.specs.Pairs.{AreOnce}

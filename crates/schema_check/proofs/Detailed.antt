@@ -1,14 +1,14 @@
 -- What a bad pair is about is not nothing.
 use Rattle.std.proofs.Common.{◌≡◌, ℕ, zero, suc, Bool, true, false, List, [], ◌∷◌, slice_get, Option, Some, None, is_none, refl, ap, subst, ◌∙◌}
 use Rattle.std.specs.Prelude.{if◌then◌else◌}
-use Rattle.avro_types.specs.Node.{Node, EnumNode, FieldNode}
-use Rattle.avro_bytes.specs.declared.mismatch.MismatchKind.{MismatchKind}
-use Rattle.avro_bytes.specs.declared.mismatch.MismatchKind.TheVariants.{NoDefault, NoSymbol}
-use Rattle.resolver.specs.Options.{given}
-use Rattle.resolver.specs.Partners.{routes}
-use Rattle.resolver.specs.declared.pairing.Route.{Route}
-use Rattle.resolver.specs.Resolution.{lacking_from, lacks, symbol_at, symbol_for, symbol_in}
-use Rattle.resolver.specs.Safety.{Pair, is_enum}
+use Rattle.spec_avro.specs.Node.{Node, EnumNode, FieldNode}
+use Rattle.spec_avro.specs.declared.mismatch.MismatchKind.{MismatchKind}
+use Rattle.spec_avro.specs.declared.mismatch.MismatchKind.TheVariants.{NoDefault, NoSymbol}
+use Rattle.spec_avro.specs.Options.{given}
+use Rattle.spec_avro.specs.Partners.{routes}
+use Rattle.spec_avro.specs.declared.place.Route.{Route}
+use Rattle.spec_avro.specs.Resolution.{lacking_from, lacks, symbol_at, symbol_for, symbol_in}
+use Rattle.spec_avro.specs.Safety.{Pair, is_enum}
 use Rattle.schema_check.specs.BadKinds.{IsBadBy, no_branch, no_default, no_match, no_symbol}
 use Rattle.schema_check.specs.Details.{BadPairsHaveDetails, all_lacking, all_missing, lacking_positions, missing_positions}
 

@@ -1,10 +1,10 @@
 -- A field that lacks and a symbol that is missing, by the tests for them.
 use Rattle.std.proofs.Common.{◌≡◌, ℕ, zero, suc, Bool, true, false, ◌||◌, List, [], ◌∷◌, slice_get, Option, Some, None, is_none, is_some, refl, ap, ◌∙◌, inl, inr, ◌⊎◌}
-use Rattle.avro_types.specs.Node.{Node, FieldNode, EnumNode}
-use Rattle.resolver.specs.Options.{given}
+use Rattle.spec_avro.specs.Node.{Node, FieldNode, EnumNode}
+use Rattle.spec_avro.specs.Options.{given}
 use Rattle.resolver.specs.NextPairs.{lacks_field, lacks_symbol, some_missing}
-use Rattle.resolver.specs.Resolution.{field_lists, lacking, symbol_at, symbol_for, symbol_in}
-use Rattle.resolver.specs.Safety.{is_enum}
+use Rattle.spec_avro.specs.Resolution.{field_lists, lacking, symbol_at, symbol_for, symbol_in}
+use Rattle.spec_avro.specs.Safety.{is_enum}
 
 either : (a b : Bool) → (a || b) ≡ true → (a ≡ true) ⊎ (b ≡ true)
 either true b e = inl refl

@@ -1,20 +1,20 @@
 -- Each mismatch of a writer's datum is at a bad pair that is reached, or is of bytes: by recursion on the datum.
 use Rattle.std.proofs.Common.{◌≡◌, ℕ, zero, suc, ◌<◌, Bool, true, false, cond, List, [], ◌∷◌, length, slice_get, slice_set, Option, Some, None, IfSome, Ok, Err, refl, inl, inr, sym, ap, subst, ◌∙◌, arith}
 use Rattle.std.specs.Str.{is_utf8}
-use Rattle.avro_types.specs.Node.{Node, FieldNode, NullNode, BooleanNode, IntNode, LongNode, BytesNode, TextNode, FixedNode, EnumNode, ArrayNode, MapNode, UnionNode, RecordNode}
-use Rattle.avro_types.specs.WellFormed.{IsMember, IsWellFormed, is_union}
-use Rattle.avro_types.specs.Datum.{Datum, Data, Pairs, NullDatum, BooleanDatum, IntDatum, LongDatum, BytesDatum, TextDatum, FixedDatum, EnumDatum, ArrayDatum, MapDatum, UnionDatum, RecordDatum, no_more, more, no_pairs, pair}
-use Rattle.avro_types.specs.Conforming.{Conforms, ConformAll, ConformPairs}
-use Rattle.avro_bytes.specs.declared.mismatch.MismatchKind.TheVariants.{NoMatch, NoSymbol, BytesNotText}
-use Rattle.resolver.specs.declared.pairing.Partner.{Partner}
-use Rattle.resolver.specs.declared.pairing.Route.{Route}
-use Rattle.resolver.specs.declared.place.Destination.{Destination}
-use Rattle.resolver.specs.declared.place.Destination.TheVariants.{Straight, IntoMember, Nowhere, Unmatched}
-use Rattle.resolver.specs.Matching.{both_items, both_values, matches, place, place_at}
-use Rattle.resolver.specs.Options.{given}
-use Rattle.resolver.specs.Partners.{routes}
-use Rattle.resolver.specs.Resolution.{Resolved, ◌>>=◌, Slots, mismatch, placed, bytes_for, symbol_at, symbol_for, member_at, field_lists, filled, lacking, no_slots, unless_lacking, int_for, text_for, resolved, resolved_items, resolved_values, resolved_fields}
-use Rattle.resolver.specs.Safety.{GoesStraight, Pair, Reached, is_enum, root, step, to_branch, to_field, to_items, to_member, to_values}
+use Rattle.spec_avro.specs.Node.{Node, FieldNode, NullNode, BooleanNode, IntNode, LongNode, BytesNode, TextNode, FixedNode, EnumNode, ArrayNode, MapNode, UnionNode, RecordNode}
+use Rattle.spec_avro.specs.WellFormed.{IsMember, IsWellFormed, is_union}
+use Rattle.spec_avro.specs.Datum.{Datum, Data, Pairs, NullDatum, BooleanDatum, IntDatum, LongDatum, BytesDatum, TextDatum, FixedDatum, EnumDatum, ArrayDatum, MapDatum, UnionDatum, RecordDatum, no_more, more, no_pairs, pair}
+use Rattle.spec_avro.specs.Conforming.{Conforms, ConformAll, ConformPairs}
+use Rattle.spec_avro.specs.declared.mismatch.MismatchKind.TheVariants.{NoMatch, NoSymbol, BytesNotText}
+use Rattle.spec_avro.specs.declared.place.Partner.{Partner}
+use Rattle.spec_avro.specs.declared.place.Route.{Route}
+use Rattle.spec_avro.specs.declared.place.Destination.{Destination}
+use Rattle.spec_avro.specs.declared.place.Destination.TheVariants.{Straight, IntoMember, Nowhere, Unmatched}
+use Rattle.spec_avro.specs.Matching.{both_items, both_values, matches, place, place_at}
+use Rattle.spec_avro.specs.Options.{given}
+use Rattle.spec_avro.specs.Partners.{routes}
+use Rattle.spec_avro.specs.Resolution.{Resolved, ◌>>=◌, Slots, mismatch, placed, bytes_for, symbol_at, symbol_for, member_at, field_lists, filled, lacking, no_slots, unless_lacking, int_for, text_for, resolved, resolved_items, resolved_values, resolved_fields}
+use Rattle.spec_avro.specs.Safety.{GoesStraight, Pair, Reached, is_enum, root, step, to_branch, to_field, to_items, to_member, to_values}
 use Rattle.resolver.proofs.Fitting.{is_a_union, node_fits}
 use Rattle.resolver.proofs.Members.{found, member_in, never_else, no_union_at}
 use Rattle.resolver.proofs.Seats.{AreOf, fields_are_of}

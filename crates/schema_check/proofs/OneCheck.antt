@@ -2,10 +2,10 @@
 use Rattle.std.proofs.Common.{◌≡◌, ℕ, zero, suc, ◌+◌, ◌-◌, ◌*◌, ◌<◌, ◌≤◌, List, [], ◌∷◌, ◌++◌, length, get_or, replicate, slice_get, Some, refl, sym, ap, subst, ◌∙◌, inl, inr, ◌⊎◌, arith}
 use Rattle.std.proofs.lemmas.Bool.{cases_lt}
 use Rattle.std.proofs.lemmas.List.{get_or_default}
-use Rattle.avro_types.specs.Node.{Node}
-use Rattle.avro_types.specs.WellFormed.{IsWellFormed}
+use Rattle.spec_avro.specs.Node.{Node}
+use Rattle.spec_avro.specs.WellFormed.{IsWellFormed}
 use Rattle.resolver.specs.NextPairs.{next_pairs}
-use Rattle.resolver.specs.Safety.{Pair}
+use Rattle.spec_avro.specs.Safety.{Pair}
 use Rattle.schema_check.specs.BadPairs.{bad_among}
 use Rattle.schema_check.specs.OneCheck.{OneIsFound, SomeAreFound}
 use Rattle.schema_check.specs.Ways.{AreParents}

@@ -1,8 +1,8 @@
 -- Each place has one way by the parents.
 use Rattle.std.proofs.Common.{◌≡◌, ℕ, zero, suc, ◌<◌, ◌≤◌, List, [], ◌∷◌, ◌++◌, length, get_or, refl, sym, ap, subst, ◌∙◌, inl, inr, ◌⊎◌, arith}
 use Rattle.std.proofs.lemmas.Bool.{cases_lt}
-use Rattle.avro_types.specs.Node.{Node}
-use Rattle.resolver.specs.Safety.{Pair}
+use Rattle.spec_avro.specs.Node.{Node}
+use Rattle.spec_avro.specs.Safety.{Pair}
 use Rattle.schema_check.specs.OneCheck.{OneWayIsByParents, SomeWayIsByParents}
 use Rattle.schema_check.specs.Ways.{AreParents, HasParent, IsByParents, at_place, of_roots, onward, parent_of}
 

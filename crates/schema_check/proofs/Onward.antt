@@ -1,8 +1,8 @@
 -- A way that is read back from its end.
 use Rattle.std.proofs.Common.{◌≡◌, ℕ, ◌<◌, List, [], ◌∷◌, ◌++◌, length, get_or, reverse, sym, ap, subst, ◌∙◌, append_assoc, arith}
 use Rattle.std.proofs.lemmas.List.{reverse-append}
-use Rattle.avro_types.specs.Node.{Node}
-use Rattle.resolver.specs.Safety.{Pair}
+use Rattle.spec_avro.specs.Node.{Node}
+use Rattle.spec_avro.specs.Safety.{Pair}
 use Rattle.schema_check.specs.Ways.{AreParents, HasParent, IsByParents, IsWay, at_place, at_roots, further, of_roots, onward, parent_of}
 use Rattle.schema_check.proofs.Walked.{append_nil}
 

@@ -3,9 +3,9 @@ use Rattle.std.proofs.Common.{◌≡◌, ℕ, zero, suc, ◌+◌, ◌-◌, ◌<�
 use Rattle.std.proofs.lemmas.Bool.{cases_lt}
 use Rattle.std.proofs.lemmas.List.{length-append, length-replicate, get_or_append_left, get_or-append_right, get_or-replicate, get_or_default}
 use Rattle.std.specs.List.{AllByRecursion}
-use Rattle.avro_types.specs.Node.{Node}
+use Rattle.spec_avro.specs.Node.{Node}
 use Rattle.resolver.specs.NextPairs.{Among, next_pairs}
-use Rattle.resolver.specs.Safety.{LeadsTo, Pair}
+use Rattle.spec_avro.specs.Safety.{LeadsTo, Pair}
 use Rattle.resolver.proofs.Leading.{among_leads, leads_among}
 use Rattle.schema_check.specs.Pairs.{AreOnce, with_all, with_one}
 use Rattle.schema_check.specs.Walk.{IsWalk}

@@ -2,9 +2,9 @@
 use Rattle.std.proofs.Common.{◌≡◌, ℕ, zero, suc, ◌+◌, ◌<◌, ◌≤◌, List, [], ◌∷◌, ◌++◌, length, take, get_or, slice_get, Some, refl, sym, ap, subst, ◌∙◌, inl, inr, ◌⊎◌, arith, append_assoc}
 use Rattle.std.proofs.lemmas.List.{take-append-le, take_more, length-append}
 use Rattle.std.specs.List.{AllByRecursion}
-use Rattle.avro_types.specs.Node.{Node}
+use Rattle.spec_avro.specs.Node.{Node}
 use Rattle.resolver.specs.NextPairs.{Among, next_pairs}
-use Rattle.resolver.specs.Safety.{Pair, Reached, root, step}
+use Rattle.spec_avro.specs.Safety.{Pair, Reached, root, step}
 use Rattle.resolver.proofs.Closed.{all_after, among_last, among_more}
 use Rattle.resolver.proofs.Leading.{among_leads, leads_among}
 use Rattle.schema_check.specs.Pairs.{AreOnce, with_all, with_one}

@@ -1,15 +1,15 @@
 -- By which kind a pair of nodes is bad (Avro 1.11, "Schema Resolution").
 use Rattle.std.specs.Prelude.{◌≡◌, ◌↔◌, ℕ, Bool, true, false, List, Option, Some, None, slice_get}
-use Rattle.avro_types.specs.Node.{Node, FieldNode, UnionNode}
-use Rattle.avro_types.specs.WellFormed.{is_union}
-use Rattle.avro_bytes.specs.declared.mismatch.MismatchKind.{MismatchKind}
-use Rattle.avro_bytes.specs.declared.mismatch.MismatchKind.TheVariants.{NoMatch, NoBranch, NoSymbol, NoDefault}
-use Rattle.resolver.specs.declared.place.Destination.{Destination}
-use Rattle.resolver.specs.declared.place.Destination.TheVariants.{Straight, IntoMember, Nowhere, Unmatched}
-use Rattle.resolver.specs.Matching.{place}
+use Rattle.spec_avro.specs.Node.{Node, FieldNode, UnionNode}
+use Rattle.spec_avro.specs.WellFormed.{is_union}
+use Rattle.spec_avro.specs.declared.mismatch.MismatchKind.{MismatchKind}
+use Rattle.spec_avro.specs.declared.mismatch.MismatchKind.TheVariants.{NoMatch, NoBranch, NoSymbol, NoDefault}
+use Rattle.spec_avro.specs.declared.place.Destination.{Destination}
+use Rattle.spec_avro.specs.declared.place.Destination.TheVariants.{Straight, IntoMember, Nowhere, Unmatched}
+use Rattle.spec_avro.specs.Matching.{place}
 use Rattle.resolver.specs.NextPairs.{lacks_field, lacks_symbol}
-use Rattle.resolver.specs.Resolution.{field_lists, lacking, symbol_at, symbol_for}
-use Rattle.resolver.specs.Safety.{GoesStraight, IsBad, Pair, is_enum}
+use Rattle.spec_avro.specs.Resolution.{field_lists, lacking, symbol_at, symbol_for}
+use Rattle.spec_avro.specs.Safety.{GoesStraight, IsBad, Pair, is_enum}
 
 -- ---- the rules
 

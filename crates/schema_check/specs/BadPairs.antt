@@ -1,9 +1,9 @@
 -- Which pairs are reached and bad, by which kind, in the order in which they are reached first.
 use Rattle.std.specs.Prelude.{◌≡◌, ◌↔◌, ◌<◌, ℕ, suc, List, [], ◌∷◌, ◌++◌, length, Option, Some, None, slice_get}
 use Rattle.std.specs.List.{AllByRecursion}
-use Rattle.avro_types.specs.Node.{Node}
-use Rattle.avro_bytes.specs.declared.mismatch.MismatchKind.{MismatchKind}
-use Rattle.resolver.specs.Safety.{IsSafe, Pair, Reached}
+use Rattle.spec_avro.specs.Node.{Node}
+use Rattle.spec_avro.specs.declared.mismatch.MismatchKind.{MismatchKind}
+use Rattle.spec_avro.specs.Safety.{IsSafe, Pair, Reached}
 use Rattle.schema_check.specs.BadKinds.{IsBadBy, kind_of}
 use Rattle.schema_check.specs.Pairs.{AreBelow, AreOnce, pairs_at}
 use Rattle.schema_check.specs.Walk.{AreInOrder}

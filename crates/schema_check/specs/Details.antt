@@ -1,12 +1,12 @@
 -- What a bad pair is about: all fields that lack, and all symbols that are missing, by their positions.
 use Rattle.std.specs.Prelude.{◌≡◌, ℕ, suc, List, [], ◌∷◌, Option, Some, if◌then◌else◌, is_none, slice_get}
-use Rattle.avro_types.specs.Node.{Node, EnumNode, FieldNode}
-use Rattle.avro_bytes.specs.declared.mismatch.MismatchKind.TheVariants.{NoDefault, NoSymbol}
-use Rattle.resolver.specs.Options.{given}
-use Rattle.resolver.specs.Partners.{routes}
-use Rattle.resolver.specs.declared.pairing.Route.{Route}
-use Rattle.resolver.specs.Resolution.{field_lists, lacks, symbol_in}
-use Rattle.resolver.specs.Safety.{Pair}
+use Rattle.spec_avro.specs.Node.{Node, EnumNode, FieldNode}
+use Rattle.spec_avro.specs.declared.mismatch.MismatchKind.TheVariants.{NoDefault, NoSymbol}
+use Rattle.spec_avro.specs.Options.{given}
+use Rattle.spec_avro.specs.Partners.{routes}
+use Rattle.spec_avro.specs.declared.place.Route.{Route}
+use Rattle.spec_avro.specs.Resolution.{field_lists, lacks, symbol_in}
+use Rattle.spec_avro.specs.Safety.{Pair}
 use Rattle.schema_check.specs.BadKinds.{IsBadBy}
 
 -- the positions, from j on, of the reader's fields that have neither a partner nor a default

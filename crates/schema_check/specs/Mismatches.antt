@@ -1,13 +1,13 @@
 -- What the bad pairs say of data: each mismatch that a datum of the writer meets is at one of them.
 use Rattle.std.specs.Prelude.{◌≡◌, ◌⊎◌, List, Some, Ok, Err, slice_get}
-use Rattle.avro_types.specs.Conforming.{Conforms}
-use Rattle.avro_types.specs.Datum.{Datum}
-use Rattle.avro_types.specs.Node.{Node, FieldNode}
-use Rattle.avro_types.specs.WellFormed.{IsWellFormed}
-use Rattle.avro_bytes.specs.declared.mismatch.Mismatch.{Mismatch}
-use Rattle.avro_bytes.specs.declared.mismatch.MismatchKind.TheVariants.{BytesNotText}
-use Rattle.resolver.specs.Resolution.{Resolved, field_lists, lacking, resolved}
-use Rattle.resolver.specs.Safety.{Pair, Reached}
+use Rattle.spec_avro.specs.Conforming.{Conforms}
+use Rattle.spec_avro.specs.Datum.{Datum}
+use Rattle.spec_avro.specs.Node.{Node, FieldNode}
+use Rattle.spec_avro.specs.WellFormed.{IsWellFormed}
+use Rattle.spec_avro.specs.declared.mismatch.Mismatch.{Mismatch}
+use Rattle.spec_avro.specs.declared.mismatch.MismatchKind.TheVariants.{BytesNotText}
+use Rattle.spec_avro.specs.Resolution.{Resolved, field_lists, lacking, resolved}
+use Rattle.spec_avro.specs.Safety.{Pair, Reached}
 use Rattle.schema_check.specs.BadKinds.{IsBadBy}
 
 -- A reached bad pair that a mismatch is of: its kind is the mismatch's, and so are its nodes, but that the mismatch

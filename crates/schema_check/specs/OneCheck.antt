@@ -1,9 +1,9 @@
 -- Each pair of schemas has reached pairs with their parents, and bad ones, and just one list of each; and each place
 -- has a way by the parents, and just one.
 use Rattle.std.specs.Prelude.{◌≡◌, ◌<◌, ℕ, List, length}
-use Rattle.avro_types.specs.Node.{Node}
-use Rattle.avro_types.specs.WellFormed.{IsWellFormed}
-use Rattle.resolver.specs.Safety.{Pair}
+use Rattle.spec_avro.specs.Node.{Node}
+use Rattle.spec_avro.specs.WellFormed.{IsWellFormed}
+use Rattle.spec_avro.specs.Safety.{Pair}
 use Rattle.schema_check.specs.BadPairs.{AreFound}
 use Rattle.schema_check.specs.Ways.{AreParents, IsByParents}
 use Rattle.schema_check.specs.declared.checking.BadPair.{BadPair}

@@ -3,7 +3,7 @@ use Rattle.std.specs.Prelude.{◌≡◌, ℕ, ◌+◌, ◌*◌, ◌<◌, ◌==�
 use Rattle.std.specs.List.{AllByRecursion}
 use Rattle.resolver.specs.NextPairs.{Among}
 use Rattle.resolver.specs.Pairs.{AreWithin, marks}
-use Rattle.resolver.specs.Safety.{Pair}
+use Rattle.spec_avro.specs.Safety.{Pair}
 use Rattle.schema_check.specs.declared.pairs.NodePair.{NodePair}
 use Rattle.schema_check.specs.declared.pairs.PairList.TheInside.{Inside}
 

@@ -1,8 +1,8 @@
 -- The order in which pairs are reached first, from the roots on.
 use Rattle.std.specs.Prelude.{◌≡◌, ℕ, suc, List, [], ◌∷◌, length, Some, slice_get}
-use Rattle.avro_types.specs.Node.{Node}
+use Rattle.spec_avro.specs.Node.{Node}
 use Rattle.resolver.specs.NextPairs.{next_pairs}
-use Rattle.resolver.specs.Safety.{Pair}
+use Rattle.spec_avro.specs.Safety.{Pair}
 use Rattle.schema_check.specs.Pairs.{with_all}
 
 module _ (W R : List Node) where

@@ -1,7 +1,7 @@
 -- How a pair is reached: for each the first pair that leads to it, and a way from the roots.
 use Rattle.std.specs.Prelude.{◌≡◌, ◌<◌, ℕ, List, [], ◌∷◌, ◌++◌, length, slice_index_or}
-use Rattle.avro_types.specs.Node.{Node}
-use Rattle.resolver.specs.Safety.{LeadsTo, Pair}
+use Rattle.spec_avro.specs.Node.{Node}
+use Rattle.spec_avro.specs.Safety.{LeadsTo, Pair}
 
 -- the pair at a place
 abbrev pub at_place : List Pair → ℕ → Pair

@@ -2,7 +2,7 @@
 
 ghost use Rattle.std.specs.Prelude.{◌≡◌, ◌<◌, ℕ, false, length, slice_get, slice_index_or, IfOk};
 ghost use Rattle.avro_types.specs.Node.{fields_of};
-ghost use Rattle.resolver.specs.Partners.{has_partner};
+ghost use Rattle.spec_avro.specs.Partners.{has_partner};
 ghost use Rattle.schema_check.specs.Details.{all_lacking, lacking_positions};
 
 use avro_types::{Field, Nodes};

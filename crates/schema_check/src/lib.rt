@@ -1,8 +1,8 @@
 //! Resolution.
 //!
 //! Why a reader cannot read all that a writer writes: every bad pair of nodes that the roots lead to, by which kind it
-//! is bad, and a way to it (Avro 1.11 Specification, "Schema Resolution"). A call answers `AllocError` where there is no
-//! memory for its answer, and for nothing else.
+//! is bad, and a way to it (Avro 1.11 Specification, "Schema Resolution"). A call answers `AllocError` where there is
+//! no memory for its answer, and for nothing else.
 #![tactic(auto)]
 
 mod checking;

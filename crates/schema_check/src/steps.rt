@@ -3,10 +3,10 @@
 
 ghost use Rattle.std.specs.Prelude.{◌≡◌, ◌<◌, false, [], ◌∷◌, Some, is_some, length, map, slice_get, IfOk};
 ghost use Rattle.avro_types.specs.Node.{fields_of};
-ghost use Rattle.resolver.specs.Partners.{routes};
+ghost use Rattle.spec_avro.specs.Partners.{routes};
 ghost use Rattle.resolver.specs.NextPairs.{lacks_field, lacks_symbol, next_pairs, part_pairs, partner_pairs};
 ghost use Rattle.resolver.specs.Pairs.{AreWithin};
-ghost use Rattle.resolver.specs.Resolution.{lacking};
+ghost use Rattle.spec_avro.specs.Resolution.{lacking};
 ghost use Rattle.schema_check.specs.BadKinds.{kind_of, straight_kind};
 
 use crate::symbols::some_missing;

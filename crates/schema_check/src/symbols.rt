@@ -2,7 +2,7 @@
 
 ghost use Rattle.std.specs.Prelude.{◌≡◌, ◌<◌, ◌≤◌, IfOk, length, map, slice_get, string_bytes};
 ghost use Rattle.resolver.specs.NextPairs.{some_missing};
-ghost use Rattle.resolver.specs.Resolution.{symbol_in};
+ghost use Rattle.spec_avro.specs.Resolution.{symbol_in};
 ghost use Rattle.schema_check.specs.Details.{all_missing, missing_positions};
 
 use avro_types::{Kind, MOST_SYMBOLS, Nodes, Symbols};

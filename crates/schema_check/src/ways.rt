@@ -18,7 +18,8 @@ fn reversed(alloc: Global, pairs: &[NodePair]) -> Result<Vec<NodePair>, AllocErr
 }
 
 /// Returns a way from the roots to the pair at a place of a check: the roots first, that pair last, and between them
-/// pairs of which each is the next one's parent. The schemas are those of the check.
+/// pairs of which each is the next one's parent. The schemas are those of the check. `writer` and `reader` are read by
+/// the clauses alone.
 pub fn way_to(
     alloc: Global,
     check: &Check,

@@ -1,13 +1,13 @@
 -- Where the data of a pair arrive, by how they go on.
 use Rattle.std.proofs.Common.{◌≡◌, ℕ, Bool, true, false, cond, List, slice_get, Option, Some, refl, sym, ap, ◌∙◌}
-use Rattle.avro_types.specs.Node.{Node, UnionNode}
-use Rattle.avro_types.specs.WellFormed.{IsMember, IsWellFormed, is_union}
-use Rattle.resolver.specs.Matching.{matches, place, place_at}
-use Rattle.resolver.specs.declared.place.Destination.{Destination}
-use Rattle.resolver.specs.declared.place.Destination.TheVariants.{Straight, IntoMember, Unmatched}
+use Rattle.spec_avro.specs.Node.{Node, UnionNode}
+use Rattle.spec_avro.specs.WellFormed.{IsMember, IsWellFormed, is_union}
+use Rattle.spec_avro.specs.Matching.{matches, place, place_at}
+use Rattle.spec_avro.specs.declared.place.Destination.{Destination}
+use Rattle.spec_avro.specs.declared.place.Destination.TheVariants.{Straight, IntoMember, Unmatched}
 use Rattle.resolver.proofs.Fitting.{is_a_union}
 use Rattle.resolver.proofs.Members.{found, member_in, no_union_at}
-use Rattle.resolver.specs.Safety.{GoesStraight}
+use Rattle.spec_avro.specs.Safety.{GoesStraight}
 use Rattle.schema_explain.specs.Arrivals.{arrival, arrival_at, fate_in, placed_at, straight}
 use Rattle.schema_explain.specs.declared.line.Fate.TheVariants.{Parts}
 

@@ -1,16 +1,16 @@
 -- Each bad pair that is reached has a line with a mismatch.
 use Rattle.std.proofs.Common.{◌≡◌, ℕ, ◌+◌, Bool, true, false, cond, List, [], ◌∷◌, slice_get, Option, Some, None, sym, ap, subst, ◌∙◌, arith}
 use Rattle.std.specs.List.{AllByRecursion}
-use Rattle.avro_types.specs.Node.{Node, FieldNode}
-use Rattle.avro_types.specs.WellFormed.{IsWellFormed, is_union}
-use Rattle.avro_bytes.specs.declared.mismatch.MismatchKind.{MismatchKind}
-use Rattle.avro_bytes.specs.declared.mismatch.MismatchKind.TheVariants.{NoMatch, NoBranch, NoDefault, NoSymbol}
-use Rattle.resolver.specs.Matching.{place}
-use Rattle.resolver.specs.Options.{given}
-use Rattle.resolver.specs.Partners.{PartnersAreApart, routes}
-use Rattle.resolver.specs.declared.place.Destination.TheVariants.{Nowhere, Unmatched}
-use Rattle.resolver.specs.Resolution.{field_lists, lacking, lacks, symbol_at, symbol_for}
-use Rattle.resolver.specs.Safety.{GoesStraight, IsBad, Pair, Reached, is_enum, no_branch, no_default, no_match, no_symbol}
+use Rattle.spec_avro.specs.Node.{Node, FieldNode}
+use Rattle.spec_avro.specs.WellFormed.{IsWellFormed, is_union}
+use Rattle.spec_avro.specs.declared.mismatch.MismatchKind.{MismatchKind}
+use Rattle.spec_avro.specs.declared.mismatch.MismatchKind.TheVariants.{NoMatch, NoBranch, NoDefault, NoSymbol}
+use Rattle.spec_avro.specs.Matching.{place}
+use Rattle.spec_avro.specs.Options.{given}
+use Rattle.spec_avro.specs.Partners.{PartnersAreApart, routes}
+use Rattle.spec_avro.specs.declared.place.Destination.TheVariants.{Nowhere, Unmatched}
+use Rattle.spec_avro.specs.Resolution.{field_lists, lacking, lacks, symbol_at, symbol_for}
+use Rattle.spec_avro.specs.Safety.{GoesStraight, IsBad, Pair, Reached, is_enum, no_branch, no_default, no_match, no_symbol}
 use Rattle.schema_explain.specs.Arrivals.{fate_in, straight}
 use Rattle.schema_explain.specs.Explanation.{roots}
 use Rattle.schema_explain.specs.Lines as claims

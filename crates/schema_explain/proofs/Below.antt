@@ -3,11 +3,12 @@ use Rattle.std.proofs.Common.{◌≡◌, ℕ, suc, ◌<◌, ◌≤◌, Bool, tru
 use Rattle.std.specs.Global.{Vec}
 use Rattle.std.specs.declared.alloc.AllocError.{AllocError}
 use Rattle.std.specs.List.{AllByRecursion}
-use Rattle.avro_types.specs.Node.{Node, FieldNode}
-use Rattle.avro_types.specs.WellFormed.{FieldsBelow, IsMember}
-use Rattle.resolver.specs.Options.{given}
-use Rattle.resolver.specs.Partners.{AreRoutes, goes_to, routes}
-use Rattle.resolver.specs.declared.pairing.Route.{Route}
+use Rattle.spec_avro.specs.Node.{Node, FieldNode}
+use Rattle.spec_avro.specs.WellFormed.{FieldsBelow, IsMember}
+use Rattle.spec_avro.specs.Options.{given}
+use Rattle.resolver.specs.Partners.{AreRoutes}
+use Rattle.spec_avro.specs.Partners.{goes_to, routes}
+use Rattle.spec_avro.specs.declared.place.Route.{Route}
 use Rattle.resolver.proofs.Within.{routes_within}
 use Rattle.schema_explain.specs.Bounds.{AreBelow, HasNodesOf, IsBelow}
 use Rattle.schema_explain.specs.Parts.{absent_line, branch_entries, dropped, dropped_line, due, field_entries, record_entries, source, symbol_entries}

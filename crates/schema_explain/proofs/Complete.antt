@@ -1,8 +1,8 @@
 -- Each entry comes to its line, and each pair that is explained to lines of its parts.
 use Rattle.std.proofs.Common.{◌≡◌, ℕ, ◌+◌, Bool, true, false, cond, List, [], ◌∷◌, ◌++◌, slice_get, Some, refl, sym, subst, inl, inr, ◌⊎◌}
 use Rattle.std.specs.List.{AllByRecursion}
-use Rattle.avro_types.specs.Node.{Node}
-use Rattle.resolver.specs.Safety.{Pair}
+use Rattle.spec_avro.specs.Node.{Node}
+use Rattle.spec_avro.specs.Safety.{Pair}
 use Rattle.schema_explain.specs.Arrivals.{arrival}
 use Rattle.schema_explain.specs.Explanation.{Explained, Step, alone, entry, has_parts, line_at, nothing, step, whole_of}
 use Rattle.schema_explain.specs.Lines.{IsLineOf, SomeLine}

@@ -1,18 +1,17 @@
 -- Data become what the fates of their pairs say.
 use Rattle.std.proofs.Common.{◌≡◌, ℕ, Bool, true, false, cond, List, length, ℤ, slice_get, Option, Some, Ok, refl, sym, ap, subst, ◌∙◌}
 use Rattle.std.specs.Str.{is_utf8}
-use Rattle.avro_types.specs.Node.{Node, NullNode, BooleanNode, IntNode, LongNode, BytesNode, TextNode, FixedNode, EnumNode, ArrayNode, MapNode, UnionNode, RecordNode}
-use Rattle.avro_types.specs.WellFormed.{is_union}
-use Rattle.avro_types.specs.Datum.{Datum, NullDatum, BooleanDatum, IntDatum, LongDatum, BytesDatum, TextDatum, FixedDatum, EnumDatum, ArrayDatum, MapDatum, UnionDatum, RecordDatum}
-use Rattle.avro_bytes.specs.declared.mismatch.MismatchKind.{MismatchKind}
-use Rattle.avro_bytes.specs.declared.mismatch.MismatchKind.TheVariants.{NoMatch, NoBranch, BytesNotText}
-use Rattle.resolver.specs.declared.place.Destination.{Destination}
-use Rattle.resolver.specs.declared.place.Destination.TheVariants.{Straight, IntoMember, Nowhere, Unmatched}
-use Rattle.resolver.specs.Matching.{matches, place, place_at}
+use Rattle.spec_avro.specs.Node.{Node, NullNode, BooleanNode, IntNode, LongNode, BytesNode, TextNode, FixedNode, EnumNode, ArrayNode, MapNode, UnionNode, RecordNode}
+use Rattle.spec_avro.specs.WellFormed.{is_union, IsWellFormed}
+use Rattle.spec_avro.specs.Datum.{Datum, NullDatum, BooleanDatum, IntDatum, LongDatum, BytesDatum, TextDatum, FixedDatum, EnumDatum, ArrayDatum, MapDatum, UnionDatum, RecordDatum}
+use Rattle.spec_avro.specs.declared.mismatch.MismatchKind.{MismatchKind}
+use Rattle.spec_avro.specs.declared.mismatch.MismatchKind.TheVariants.{NoMatch, NoBranch, BytesNotText}
+use Rattle.spec_avro.specs.declared.place.Destination.{Destination}
+use Rattle.spec_avro.specs.declared.place.Destination.TheVariants.{Straight, IntoMember, Nowhere, Unmatched}
+use Rattle.spec_avro.specs.Matching.{matches, place, place_at}
 use Rattle.resolver.proofs.Fitting.{is_a_union, node_fits}
 use Rattle.resolver.proofs.Members.{never_else, no_union_at}
-use Rattle.avro_types.specs.WellFormed.{IsWellFormed}
-use Rattle.resolver.specs.Resolution.{Resolved, ◌>>=◌, bytes_for, int_for, mismatch, placed, resolved, text_for}
+use Rattle.spec_avro.specs.Resolution.{Resolved, ◌>>=◌, bytes_for, int_for, mismatch, placed, resolved, text_for}
 use Rattle.schema_explain.specs.Arrivals.{arrival, fate_in, placed_at}
 use Rattle.schema_explain.specs.Becoming.{BecomesAsFated, FatesAreMet, promoted}
 use Rattle.schema_explain.specs.declared.line.Fate.{Fate}

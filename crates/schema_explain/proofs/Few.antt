@@ -1,9 +1,9 @@
 -- A pair has no more parts than an enum may have symbols.
 use Rattle.std.proofs.Common.{◌≡◌, ℕ, suc, ◌+◌, ◌≤◌, Bool, true, false, cond, List, [], ◌∷◌, length, is_none, Option, refl, ap, arith}
 use Rattle.std.proofs.lemmas.List.{length-append}
-use Rattle.avro_types.specs.Node.{FieldNode}
-use Rattle.resolver.specs.Partners.{partners, routes, routes_to}
-use Rattle.resolver.specs.declared.pairing.Route.{Route}
+use Rattle.spec_avro.specs.Node.{FieldNode}
+use Rattle.spec_avro.specs.Partners.{partners, routes, routes_to}
+use Rattle.spec_avro.specs.declared.place.Route.{Route}
 use Rattle.schema_explain.specs.Parts.{branch_entries, dropped, dropped_line, field_entries, record_entries, symbol_entries}
 use Rattle.schema_explain.specs.declared.entries.Entry.TheVariants.{Ready}
 use Rattle.schema_explain.specs.declared.entries.Whole.{Whole}

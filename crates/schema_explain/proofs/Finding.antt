@@ -1,15 +1,15 @@
 -- The entries of two nodes have one for each branch, item, value and field.
 use Rattle.std.proofs.Common.{◌≡◌, ℕ, zero, suc, ◌+◌, ◌==◌, Bool, true, false, cond, List, [], ◌∷◌, ◌++◌, slice_get, Option, Some, None, option_map, refl, sym, ap, subst, ◌∙◌, arith}
 use Rattle.std.specs.List.{AllByRecursion}
-use Rattle.avro_types.specs.Node.{Node, FieldNode, ArrayNode, MapNode, RecordNode}
-use Rattle.resolver.specs.Matching.{both_items, both_values}
-use Rattle.resolver.specs.Options.{given}
-use Rattle.resolver.specs.Partners.{PartnersAreApart, goes_to, partner_at, partners, routes, routes_to}
-use Rattle.resolver.specs.declared.pairing.Partner.{Partner}
-use Rattle.resolver.specs.declared.pairing.Route.{Route}
-use Rattle.avro_types.specs.WellFormed.{HaveDistinctNames}
-use Rattle.resolver.specs.Resolution.{field_lists}
-use Rattle.resolver.specs.Safety.{Pair}
+use Rattle.spec_avro.specs.Node.{Node, FieldNode, ArrayNode, MapNode, RecordNode}
+use Rattle.spec_avro.specs.Matching.{both_items, both_values}
+use Rattle.spec_avro.specs.Options.{given}
+use Rattle.spec_avro.specs.Partners.{PartnersAreApart, goes_to, partner_at, partners, routes, routes_to}
+use Rattle.spec_avro.specs.declared.place.Partner.{Partner}
+use Rattle.spec_avro.specs.declared.place.Route.{Route}
+use Rattle.spec_avro.specs.WellFormed.{HaveDistinctNames}
+use Rattle.spec_avro.specs.Resolution.{field_lists}
+use Rattle.spec_avro.specs.Safety.{Pair}
 use Rattle.schema_explain.specs.Arrivals.{fate_in}
 use Rattle.schema_explain.specs.Explanation.{has_parts}
 use Rattle.schema_explain.specs.Parts.{absent_line, branch_entries, dropped, due, field_entries, field_entry, parts_of, record_entries, source}

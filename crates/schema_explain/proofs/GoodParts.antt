@@ -1,17 +1,17 @@
 -- The parts of a pair that is reached are reached, and their mismatches are at it.
 use Rattle.std.proofs.Common.{◌≡◌, ℕ, suc, ◌+◌, Bool, true, false, cond, not, ◌&&◌, List, [], ◌∷◌, ◌++◌, slice_get, is_none, Option, Some, None, refl, sym, ap, subst, ◌∙◌, arith}
 use Rattle.std.specs.List.{AllByRecursion}
-use Rattle.avro_types.specs.Node.{Node, Names, FieldNode, IntNode, LongNode, BytesNode, TextNode, EnumNode, ArrayNode, MapNode, UnionNode, RecordNode}
-use Rattle.avro_types.specs.Symbols.{place_of}
-use Rattle.avro_types.specs.WellFormed.{is_union}
-use Rattle.avro_bytes.specs.declared.mismatch.MismatchKind.{MismatchKind}
-use Rattle.avro_bytes.specs.declared.mismatch.MismatchKind.TheVariants.{NoDefault, NoSymbol}
-use Rattle.resolver.specs.Matching.{both_items, both_values}
-use Rattle.resolver.specs.Options.{given, or_else}
-use Rattle.resolver.specs.Partners.{partners, routes}
-use Rattle.resolver.specs.declared.pairing.Route.{Route}
-use Rattle.resolver.specs.Resolution.{field_lists, lacks, symbol_at, symbol_for, symbol_in}
-use Rattle.resolver.specs.Safety.{GoesStraight, Reached, is_enum, no_default, no_symbol, step, to_field, to_items, to_member, to_values}
+use Rattle.spec_avro.specs.Node.{Node, Names, FieldNode, IntNode, LongNode, BytesNode, TextNode, EnumNode, ArrayNode, MapNode, UnionNode, RecordNode}
+use Rattle.spec_avro.specs.Symbols.{place_of}
+use Rattle.spec_avro.specs.WellFormed.{is_union}
+use Rattle.spec_avro.specs.declared.mismatch.MismatchKind.{MismatchKind}
+use Rattle.spec_avro.specs.declared.mismatch.MismatchKind.TheVariants.{NoDefault, NoSymbol}
+use Rattle.spec_avro.specs.Matching.{both_items, both_values}
+use Rattle.spec_avro.specs.Options.{given, or_else}
+use Rattle.spec_avro.specs.Partners.{partners, routes}
+use Rattle.spec_avro.specs.declared.place.Route.{Route}
+use Rattle.spec_avro.specs.Resolution.{field_lists, lacks, symbol_at, symbol_for, symbol_in}
+use Rattle.spec_avro.specs.Safety.{GoesStraight, Reached, is_enum, no_default, no_symbol, step, to_field, to_items, to_member, to_values}
 use Rattle.schema_explain.specs.Arrivals.{fate_in}
 use Rattle.schema_explain.specs.Lines as claims
 use Rattle.schema_explain.specs.Lines.{IsAtBadPair, MismatchesAreAtBadPairs}

@@ -1,14 +1,14 @@
 -- Fields that lack, and symbols that are missing, as lines.
 use Rattle.std.proofs.Common.{◌≡◌, ℕ, zero, suc, ◌+◌, Bool, true, false, cond, not, ◌&&◌, ◌||◌, List, [], ◌∷◌, slice_get, is_none, Option, Some, None, refl, sym, ap, subst, ◌∙◌, arith}
 use Rattle.std.specs.List.{AllByRecursion}
-use Rattle.avro_types.specs.Node.{Node, FieldNode, EnumNode}
-use Rattle.avro_types.specs.Symbols.{place_of}
-use Rattle.avro_bytes.specs.declared.mismatch.MismatchKind.TheVariants.{NoSymbol}
-use Rattle.resolver.specs.Options.{given, or_else}
-use Rattle.resolver.specs.Partners.{goes_to, has_partner, routes}
-use Rattle.resolver.specs.declared.pairing.Route.{Route}
-use Rattle.resolver.specs.Resolution.{lacking_from, lacks, symbol_at, symbol_for, symbol_in}
-use Rattle.resolver.specs.Safety.{is_enum}
+use Rattle.spec_avro.specs.Node.{Node, FieldNode, EnumNode}
+use Rattle.spec_avro.specs.Symbols.{place_of}
+use Rattle.spec_avro.specs.declared.mismatch.MismatchKind.TheVariants.{NoSymbol}
+use Rattle.spec_avro.specs.Options.{given, or_else}
+use Rattle.spec_avro.specs.Partners.{goes_to, has_partner, routes}
+use Rattle.spec_avro.specs.declared.place.Route.{Route}
+use Rattle.spec_avro.specs.Resolution.{lacking_from, lacks, symbol_at, symbol_for, symbol_in}
+use Rattle.spec_avro.specs.Safety.{is_enum}
 use Rattle.schema_explain.specs.Arrivals.{fate_in}
 use Rattle.schema_explain.specs.Explanation.{has_parts}
 use Rattle.schema_explain.specs.Parts.{parts_of, source, symbol_entries, symbol_fate, symbol_line}

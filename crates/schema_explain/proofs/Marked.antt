@@ -3,7 +3,7 @@ use Rattle.std.proofs.Common.{◌≡◌, ℕ, ◌+◌, ◌*◌, ◌<◌, ◌||�
 use Rattle.std.proofs.Math.ListN.{set}
 use Rattle.std.proofs.lemmas.List.{get_or-set_same, get_or-set_other, length-set}
 use Rattle.std.proofs.lemmas.Bool.{cases_eq}
-use Rattle.resolver.specs.Safety.{Pair}
+use Rattle.spec_avro.specs.Safety.{Pair}
 use Rattle.resolver.specs.Pairs.{marks}
 use Rattle.resolver.proofs.Marks.{all_false, count_set, marks_le, same_place}
 use Rattle.schema_explain.specs.Pairs.{is_among, is_same_pair}

@@ -1,7 +1,7 @@
 -- The lines of entries are determined.
 use Rattle.std.proofs.Common.{◌≡◌, List, [], ◌∷◌, ◌++◌, refl, sym, ap, ◌∙◌}
-use Rattle.avro_types.specs.Node.{Node}
-use Rattle.resolver.specs.Safety.{Pair}
+use Rattle.spec_avro.specs.Node.{Node}
+use Rattle.spec_avro.specs.Safety.{Pair}
 use Rattle.schema_explain.specs.Explanation.{Explained, entry, nothing, roots, step}
 use Rattle.schema_explain.specs.Lines.{ThereIsOneExplanation}
 use Rattle.schema_explain.specs.declared.entries.Entry.{Entry}

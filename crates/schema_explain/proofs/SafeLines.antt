@@ -1,8 +1,8 @@
 -- No line mismatches just where no bad pair is reached.
 use Rattle.std.proofs.Common.{◌≡◌, List, [], ◌∷◌, suc, ℕ, slice_get, Some, refl, inl, inr}
 use Rattle.std.specs.List.{AllByRecursion}
-use Rattle.avro_types.specs.Node.{Node}
-use Rattle.resolver.specs.Safety.{Pair}
+use Rattle.spec_avro.specs.Node.{Node}
+use Rattle.spec_avro.specs.Safety.{Pair}
 use Rattle.schema_explain.specs.Lines.{EachBadPairHasALine, HasMismatchAt, IsFine, MismatchesAreAtBadPairs, SafeWhereNoLineMismatches, SomeLine}
 use Rattle.schema_explain.specs.declared.line.Line.{Line}
 

@@ -1,14 +1,14 @@
 -- Each line with a mismatch is at a bad pair that is reached.
 use Rattle.std.proofs.Common.{◌≡◌, ℕ, zero, suc, ◌+◌, Bool, true, false, cond, List, [], ◌∷◌, ◌++◌, slice_get, Some, refl, sym, ap, subst, ◌∙◌}
 use Rattle.std.specs.List.{AllByRecursion}
-use Rattle.avro_types.specs.Node.{Node}
-use Rattle.avro_types.specs.WellFormed.{IsWellFormed, is_union}
-use Rattle.avro_bytes.specs.declared.mismatch.MismatchKind.{MismatchKind}
-use Rattle.avro_bytes.specs.declared.mismatch.MismatchKind.TheVariants.{NoMatch, NoBranch}
-use Rattle.resolver.specs.Matching.{place}
-use Rattle.resolver.specs.declared.place.Destination.{Destination}
-use Rattle.resolver.specs.declared.place.Destination.TheVariants.{Straight, IntoMember, Nowhere, Unmatched}
-use Rattle.resolver.specs.Safety.{GoesStraight, Pair, Reached, no_branch, no_match, root, step, to_branch}
+use Rattle.spec_avro.specs.Node.{Node}
+use Rattle.spec_avro.specs.WellFormed.{IsWellFormed, is_union}
+use Rattle.spec_avro.specs.declared.mismatch.MismatchKind.{MismatchKind}
+use Rattle.spec_avro.specs.declared.mismatch.MismatchKind.TheVariants.{NoMatch, NoBranch}
+use Rattle.spec_avro.specs.Matching.{place}
+use Rattle.spec_avro.specs.declared.place.Destination.{Destination}
+use Rattle.spec_avro.specs.declared.place.Destination.TheVariants.{Straight, IntoMember, Nowhere, Unmatched}
+use Rattle.spec_avro.specs.Safety.{GoesStraight, Pair, Reached, no_branch, no_match, root, step, to_branch}
 use Rattle.schema_explain.specs.Arrivals.{arrival, placed_at, straight}
 use Rattle.schema_explain.specs.Explanation.{Explained, Step, alone, entry, has_parts, line_at, nothing, roots, whole_of}
 use Rattle.schema_explain.specs.Explanation as explanation

@@ -1,8 +1,8 @@
 -- The lines so far and those of the stack are the lines of all, one entry after another.
 use Rattle.std.proofs.Common.{◌≡◌, ℕ, ◌+◌, ◌-◌, ◌*◌, ◌<◌, ◌≤◌, List, [], ◌∷◌, ◌++◌, length, reverse, refl, sym, ap, subst, ◌∙◌, append_assoc, arith}
 use Rattle.std.proofs.lemmas.List.{append-nil, length-append, length-reverse, reverse-append}
-use Rattle.avro_types.specs.Node.{Node}
-use Rattle.resolver.specs.Safety.{Pair}
+use Rattle.spec_avro.specs.Node.{Node}
+use Rattle.spec_avro.specs.Safety.{Pair}
 use Rattle.schema_explain.specs.Explanation.{Explained, IsExplanation, nothing, entry, step}
 use Rattle.schema_explain.specs.declared.entries.Entry.{Entry}
 use Rattle.schema_explain.specs.declared.line.Line.{Line}

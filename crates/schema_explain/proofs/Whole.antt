@@ -1,12 +1,12 @@
 -- No pair that is reached is without a line.
 use Rattle.std.proofs.Common.{◌≡◌, ℕ, Bool, true, false, List, [], ◌∷◌, slice_get, Option, Some, refl, sym, ap, subst, ◌∙◌, inl, inr}
 use Rattle.std.specs.List.{AllByRecursion}
-use Rattle.avro_types.specs.Node.{Node, FieldNode, RecordNode}
-use Rattle.avro_types.specs.WellFormed.{HaveDistinctNames, IsWellFormed}
-use Rattle.resolver.specs.Partners.{PartnersAreApart}
-use Rattle.resolver.specs.declared.place.Destination.TheVariants.{IntoMember}
-use Rattle.resolver.specs.Resolution.{field_lists}
-use Rattle.resolver.specs.Safety.{LeadsTo, Pair, Reached, root, step, to_branch, to_field, to_items, to_member, to_values}
+use Rattle.spec_avro.specs.Node.{Node, FieldNode, RecordNode}
+use Rattle.spec_avro.specs.WellFormed.{HaveDistinctNames, IsWellFormed}
+use Rattle.spec_avro.specs.Partners.{PartnersAreApart}
+use Rattle.spec_avro.specs.declared.place.Destination.TheVariants.{IntoMember}
+use Rattle.spec_avro.specs.Resolution.{field_lists}
+use Rattle.spec_avro.specs.Safety.{LeadsTo, Pair, Reached, root, step, to_branch, to_field, to_items, to_member, to_values}
 use Rattle.schema_explain.specs.Arrivals.{arrival, fate_in, straight}
 use Rattle.schema_explain.specs.Explanation.{has_parts, roots}
 use Rattle.schema_explain.specs.Lines.{EachPairHasALine, IsLineOf, SomeLine}

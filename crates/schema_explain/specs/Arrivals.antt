@@ -1,11 +1,11 @@
 -- Where a datum of a writer's node arrives with a reader's node, and what becomes of it there (Avro 1.11, "Schema
 -- Resolution").
 use Rattle.std.specs.Prelude.{ℕ, List, Option, Some, None, slice_get}
-use Rattle.avro_types.specs.Node.{Node, IntNode, LongNode, BytesNode, TextNode, EnumNode, ArrayNode, MapNode, UnionNode, RecordNode}
-use Rattle.avro_bytes.specs.declared.mismatch.MismatchKind.TheVariants.{NoMatch, NoBranch}
-use Rattle.resolver.specs.Matching.{place}
-use Rattle.resolver.specs.declared.place.Destination.{Destination}
-use Rattle.resolver.specs.declared.place.Destination.TheVariants.{Straight, IntoMember, Nowhere, Unmatched}
+use Rattle.spec_avro.specs.Node.{Node, IntNode, LongNode, BytesNode, TextNode, EnumNode, ArrayNode, MapNode, UnionNode, RecordNode}
+use Rattle.spec_avro.specs.declared.mismatch.MismatchKind.TheVariants.{NoMatch, NoBranch}
+use Rattle.spec_avro.specs.Matching.{place}
+use Rattle.spec_avro.specs.declared.place.Destination.{Destination}
+use Rattle.spec_avro.specs.declared.place.Destination.TheVariants.{Straight, IntoMember, Nowhere, Unmatched}
 use Rattle.schema_explain.specs.declared.arrivals.Arrival.{Arrival}
 use Rattle.schema_explain.specs.declared.line.Fate.{Fate}
 use Rattle.schema_explain.specs.declared.line.Fate.TheVariants.{Copied, Promoted, PromotedIfText, Parts, Mismatch}

@@ -1,12 +1,12 @@
 -- What the fates say: what resolution makes of a datum of a pair.
 use Rattle.std.specs.Prelude.{◌≡◌, ℕ, if◌then◌else◌, List, Option, Some, None, Ok}
 use Rattle.std.specs.Str.{is_utf8}
-use Rattle.avro_types.specs.Conforming.{Conforms}
-use Rattle.avro_types.specs.Datum.{Datum, IntDatum, LongDatum, BytesDatum, TextDatum, UnionDatum}
-use Rattle.avro_types.specs.Node.{Node}
-use Rattle.avro_bytes.specs.declared.mismatch.MismatchKind.{MismatchKind}
-use Rattle.avro_bytes.specs.declared.mismatch.MismatchKind.TheVariants.{BytesNotText}
-use Rattle.resolver.specs.Resolution.{Resolved, mismatch, resolved}
+use Rattle.spec_avro.specs.Conforming.{Conforms}
+use Rattle.spec_avro.specs.Datum.{Datum, IntDatum, LongDatum, BytesDatum, TextDatum, UnionDatum}
+use Rattle.spec_avro.specs.Node.{Node}
+use Rattle.spec_avro.specs.declared.mismatch.MismatchKind.{MismatchKind}
+use Rattle.spec_avro.specs.declared.mismatch.MismatchKind.TheVariants.{BytesNotText}
+use Rattle.spec_avro.specs.Resolution.{Resolved, mismatch, resolved}
 use Rattle.schema_explain.specs.Arrivals.{arrival}
 use Rattle.schema_explain.specs.declared.arrivals.Arrival.{Arrival}
 use Rattle.schema_explain.specs.declared.line.Fate.TheVariants.{Copied, Promoted, PromotedIfText, Mismatch}

@@ -1,8 +1,8 @@
 -- Which nodes lines have and are still to be explained, how deep and how many they are.
 use Rattle.std.specs.Prelude.{◌≡◌, ℕ, ◌+◌, ◌*◌, ◌<◌, ◌≤◌, List, length, IfSome}
 use Rattle.std.specs.List.{AllByRecursion}
-use Rattle.avro_types.specs.Node.{Node}
-use Rattle.avro_types.specs.declared.limits.TheConstants.{MOST_SYMBOLS}
+use Rattle.spec_avro.specs.Node.{Node}
+use Rattle.spec_avro.specs.declared.limits.TheConstants.{MOST_SYMBOLS}
 use Rattle.schema_explain.specs.Pairs.{Listed}
 use Rattle.schema_explain.specs.declared.entries.Entry.{Entry}
 use Rattle.schema_explain.specs.declared.entries.Entry.TheVariants.{Ready, Due}

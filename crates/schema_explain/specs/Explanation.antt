@@ -1,7 +1,7 @@
 -- What becomes of every part of a message, line by line (Avro 1.11, "Schema Resolution").
 use Rattle.std.specs.Prelude.{◌+◌, Bool, true, false, if◌then◌else◌, List, [], ◌∷◌, ◌++◌, Some, slice_get}
-use Rattle.avro_types.specs.Node.{Node}
-use Rattle.resolver.specs.Safety.{Pair}
+use Rattle.spec_avro.specs.Node.{Node}
+use Rattle.spec_avro.specs.Safety.{Pair}
 use Rattle.schema_explain.specs.Arrivals.{arrival}
 use Rattle.schema_explain.specs.Pairs.{is_among}
 use Rattle.schema_explain.specs.Parts.{parts_of}

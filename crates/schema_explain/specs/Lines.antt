@@ -1,15 +1,15 @@
 -- What holds of the lines of two schemas: no part is missing, and mismatches are at bad pairs.
 use Rattle.std.specs.Prelude.{◌≡◌, ◌↔◌, ℕ, ◌⊎◌, true, List, [], ◌∷◌, Some, None, Ok, Err, slice_get}
 use Rattle.std.specs.List.{AllByRecursion}
-use Rattle.avro_types.specs.Conforming.{Conforms}
-use Rattle.avro_types.specs.Datum.{Datum}
-use Rattle.avro_types.specs.Node.{Node, FieldNode}
-use Rattle.avro_bytes.specs.declared.mismatch.Mismatch.{Mismatch}
-use Rattle.avro_bytes.specs.declared.mismatch.MismatchKind.{MismatchKind}
-use Rattle.avro_bytes.specs.declared.mismatch.MismatchKind.TheVariants.{NoMatch, NoBranch, NoSymbol, NoDefault, BytesNotText}
-use Rattle.resolver.specs.Partners.{routes}
-use Rattle.resolver.specs.Resolution.{Resolved, field_lists, lacks, resolved, symbol_at, symbol_for}
-use Rattle.resolver.specs.Safety.{IsBad, IsSafe, Pair, Reached}
+use Rattle.spec_avro.specs.Conforming.{Conforms}
+use Rattle.spec_avro.specs.Datum.{Datum}
+use Rattle.spec_avro.specs.Node.{Node, FieldNode}
+use Rattle.spec_avro.specs.declared.mismatch.Mismatch.{Mismatch}
+use Rattle.spec_avro.specs.declared.mismatch.MismatchKind.{MismatchKind}
+use Rattle.spec_avro.specs.declared.mismatch.MismatchKind.TheVariants.{NoMatch, NoBranch, NoSymbol, NoDefault, BytesNotText}
+use Rattle.spec_avro.specs.Partners.{routes}
+use Rattle.spec_avro.specs.Resolution.{Resolved, field_lists, lacks, resolved, symbol_at, symbol_for}
+use Rattle.spec_avro.specs.Safety.{IsBad, IsSafe, Pair, Reached}
 use Rattle.schema_explain.specs.Arrivals.{arrival}
 use Rattle.schema_explain.specs.Explanation.{IsExplanation}
 use Rattle.schema_explain.specs.declared.line.Fate.TheVariants as fates

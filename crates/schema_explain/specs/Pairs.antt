@@ -1,7 +1,7 @@
 -- Pairs in the order in which they came, each once.
 use Rattle.std.specs.Prelude.{◌≡◌, ℕ, ◌+◌, ◌*◌, ◌<◌, ◌==◌, ◌&&◌, ◌||◌, Bool, false, if◌then◌else◌, List, [], ◌∷◌, ◌++◌, length, slice_index_or}
 use Rattle.resolver.specs.Pairs.{marks}
-use Rattle.resolver.specs.Safety.{Pair}
+use Rattle.spec_avro.specs.Safety.{Pair}
 use Rattle.schema_explain.specs.declared.pairs.PairList.TheInside.{Inside}
 
 -- the pairs, and how many nodes either schema has

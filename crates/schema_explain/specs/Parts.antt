@@ -1,11 +1,11 @@
 -- The parts of a pair of nodes, in their order (Avro 1.11, "Schema Resolution").
 use Rattle.std.specs.Prelude.{ℕ, suc, List, [], ◌∷◌, ◌++◌, Option, Some, None, is_none, if◌then◌else◌}
-use Rattle.avro_types.specs.Node.{Node, FieldNode, EnumNode, ArrayNode, MapNode, UnionNode, RecordNode}
-use Rattle.avro_types.specs.Symbols.{place_of}
-use Rattle.avro_bytes.specs.declared.mismatch.MismatchKind.TheVariants.{NoDefault, NoSymbol}
-use Rattle.resolver.specs.Options.{given}
-use Rattle.resolver.specs.Partners.{goes_to, routes}
-use Rattle.resolver.specs.declared.pairing.Route.{Route}
+use Rattle.spec_avro.specs.Node.{Node, FieldNode, EnumNode, ArrayNode, MapNode, UnionNode, RecordNode}
+use Rattle.spec_avro.specs.Symbols.{place_of}
+use Rattle.spec_avro.specs.declared.mismatch.MismatchKind.TheVariants.{NoDefault, NoSymbol}
+use Rattle.spec_avro.specs.Options.{given}
+use Rattle.spec_avro.specs.Partners.{goes_to, routes}
+use Rattle.spec_avro.specs.declared.place.Route.{Route}
 use Rattle.schema_explain.specs.declared.entries.Entry.{Entry}
 use Rattle.schema_explain.specs.declared.entries.Entry.TheVariants.{Ready, Due}
 use Rattle.schema_explain.specs.declared.entries.Whole.{Whole}

@@ -2,7 +2,7 @@
 
 ghost use Rattle.std.specs.Prelude.{◌≡◌, ◌++◌, IfOk};
 ghost use Rattle.avro_types.specs.Node.{field_of, fields_of};
-ghost use Rattle.resolver.specs.Partners.{routes};
+ghost use Rattle.spec_avro.specs.Partners.{routes};
 ghost use Rattle.schema_explain.specs.Parts.{absent_line, dropped, dropped_line, field_entries, field_entry, record_entries, source};
 
 use crate::entries::{Entry, Whole, due};

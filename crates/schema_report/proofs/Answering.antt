@@ -1,7 +1,7 @@
 -- The reports of lines that are schemas.
 use Rattle.std.proofs.Common.{◌≡◌, ℕ, Bool, List, [], string_bytes, Vec, sym, subst}
 use Rattle.std.specs.declared.alloc.Global.{Global}
-use Rattle.avro_types.specs.Node.{Node}
+use Rattle.spec_avro.specs.Node.{Node}
 use Rattle.avro_schema_paths.specs.declared.step.Step.{Step}
 use Rattle.schema_report.specs.Reports.{AnswersCheck, checked, AreChecked, IsOfLine, IsSideOf, compatible_or, verdict_of}
 use Rattle.schema_report.specs.declared.asking.Level.{Level}

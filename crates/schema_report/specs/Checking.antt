@@ -3,13 +3,13 @@ use Rattle.std.specs.Prelude.{◌≡◌, ◌↔◌, ◌<◌, ℕ, Bool, length, 
 use Rattle.std.specs.Fmt.{decimal}
 use Rattle.std.specs.List.{AllByRecursion, flat_map}
 use Rattle.std.specs.declared.alloc.Global.{Global}
-use Rattle.avro_types.specs.Node.{Node, FieldNode, EnumNode, RecordNode}
-use Rattle.avro_bytes.specs.declared.mismatch.MismatchKind.{MismatchKind}
-use Rattle.avro_bytes.specs.declared.mismatch.MismatchKind.TheVariants.{NoMatch, NoBranch, NoSymbol, NoDefault, BytesNotText}
-use Rattle.avro_bytes.specs.MismatchKind.{name_of}
+use Rattle.spec_avro.specs.Node.{Node, FieldNode, EnumNode, RecordNode}
+use Rattle.spec_avro.specs.declared.mismatch.MismatchKind.{MismatchKind}
+use Rattle.spec_avro.specs.declared.mismatch.MismatchKind.TheVariants.{NoMatch, NoBranch, NoSymbol, NoDefault, BytesNotText}
+use Rattle.spec_avro.specs.MismatchKind.{name_of}
 use Rattle.avro_schema_paths.specs.declared.step.Step.{Step}
 use Rattle.schema_check.specs.Details.{all_lacking, all_missing}
-use Rattle.resolver.specs.Safety.{IsSafe}
+use Rattle.spec_avro.specs.Safety.{IsSafe}
 use Rattle.schema_check.specs.BadPairs.{IsCheck}
 use Rattle.schema_check.specs.declared.checking.BadPair.{BadPair}
 use Rattle.schema_check.specs.declared.checking.Check.{Check}

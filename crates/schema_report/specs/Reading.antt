@@ -1,7 +1,7 @@
 -- A schema in a line. The lines are this project's own.
 use Rattle.std.specs.Prelude.{◌≡◌, ℕ, List, if◌then◌else◌, Result, Err}
 use Rattle.std.specs.Str.{is_utf8}
-use Rattle.avro_types.specs.Node.{Node}
+use Rattle.spec_avro.specs.Node.{Node}
 use Rattle.avro_schema.specs.Schema.{schema_of}
 use Rattle.avro_schema_names.specs.declared.error.SchemaError.{SchemaError}
 use Rattle.avro_schema_names.specs.declared.error.SchemaError.TheVariants.{NotJson}

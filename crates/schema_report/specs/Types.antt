@@ -1,8 +1,8 @@
 -- Types in words (Avro 1.11, "Schema Declaration", "Names"). The texts are this project's own.
 use Rattle.std.specs.Prelude.{ℕ, zero, suc, List, [], ◌++◌, Option, Some, None, codes, slice_get}
-use Rattle.avro_types.specs.Node.{Node, NullNode, BooleanNode, IntNode, LongNode, BytesNode, TextNode, FixedNode, EnumNode, ArrayNode, MapNode, UnionNode, RecordNode}
-use Rattle.resolver.specs.Matching.{both_items, both_values}
-use Rattle.resolver.specs.Options.{given}
+use Rattle.spec_avro.specs.Node.{Node, NullNode, BooleanNode, IntNode, LongNode, BytesNode, TextNode, FixedNode, EnumNode, ArrayNode, MapNode, UnionNode, RecordNode}
+use Rattle.spec_avro.specs.Matching.{both_items, both_values}
+use Rattle.spec_avro.specs.Options.{given}
 
 -- the standard's word for what a node is
 abbrev pub kind_word : Node → List ℕ

@@ -1,7 +1,7 @@
 //! Why a reader cannot read all that a writer writes, a line for each bad pair (Avro 1.11, "Schema Resolution").
 
 ghost use Rattle.std.specs.Prelude.{◌≡◌, ◌<◌, ◌++◌, codes, length, slice_get, string_bytes, IfOk, OnOk};
-ghost use Rattle.avro_bytes.specs.declared.mismatch.MismatchKind.TheVariants.{NoMatch, NoBranch};
+ghost use Rattle.spec_avro.specs.declared.mismatch.MismatchKind.TheVariants.{NoMatch, NoBranch};
 ghost use Rattle.schema_report.specs.Checking.{AreInside, IsChecked, IsInside, about, bad_line, bad_lines, field_words, lacking_words, missing_words, numbers, path_at, symbol_words};
 
 use crate::listing::push_path;
@@ -217,8 +217,8 @@ fn push_all(
 }
 
 /// Appends a line for each bad pair of two schemas, with this text before it, in the order in which the pairs are
-/// reached first. Returns whether there is none, which is just where the reader can read all that the writer writes, but
-/// for bytes that are no UTF-8.
+/// reached first. Returns whether there is none, which is just where the reader can read all that the writer writes,
+/// but for bytes that are no UTF-8.
 pub(crate) fn push_check(
     alloc: Global,
     output: &mut String,

@@ -1,6 +1,7 @@
 //! Resolution.
 //!
-//! What a person asks of schemas, as text: where their nodes are, and why a reader cannot read all that a writer writes.
+//! What a person asks of schemas, as text: where their nodes are, and why a reader cannot read all that a writer
+//! writes.
 #![tactic(auto)]
 
 mod asking;

@@ -33,7 +33,7 @@ fn value_of(alloc: Global, text: &[u8]) -> Result<Value, AllocError>
     }
 }
 
-/// Returns the paths of the nodes that the value of a text declares.
+/// Returns the paths of the nodes that the value of a text declares. `text` is read by the clauses alone.
 fn paths_in(
     alloc: Global,
     text: &[u8],

@@ -1,7 +1,7 @@
 //! Tests and bench; run by `rt ci`.
 //!
-//! Tests of `avro_schema_paths`, `avro_schema_faults`, `schema_check`, `schema_explain` and `schema_report`, in a crate of
-//! their own, so that proving a library proves no test.
+//! Tests of `avro_schema_paths`, `avro_schema_faults`, `schema_check`, `schema_explain` and `schema_report`, in a crate
+//! of their own, so that proving a library proves no test.
 #![tactic(auto)]
 
 #[cfg(test)]

@@ -15,7 +15,7 @@ use Rattle.session_core.specs.declared.refusal.EventRefusal.TheVariants.{NotHeld
 use Rattle.session_core.specs.Acts.{Acts, Slices, Takes, with_session}
 use Rattle.session_core.specs.Event.{Act, Break, Clear, Finish, Go, Piece, Refuse, Slice, Steal, Walk}
 use Rattle.avro_schema.specs.Schema.{Declaration}
-use Rattle.avro_types.specs.Node.{Node}
+use Rattle.spec_avro.specs.Node.{Node}
 use Rattle.session_core.specs.Ending.{EndsWithOutcome}
 use Rattle.session_core.specs.Kept.{IsKept, IsSession}
 use Rattle.session_core.specs.World.{Held, IsCodeOf, World, schema_after}

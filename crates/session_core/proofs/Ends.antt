@@ -4,13 +4,13 @@ use Rattle.std.specs.Prelude.{◌&&◌, if◌then◌else◌, is_some, length, no
 use Rattle.std.specs.Option.{option_and_then}
 use Rattle.std.proofs.lemmas.Bool.{false≢true}
 use Rattle.std.proofs.lemmas.Option.{none-some, same_Some}
-use Rattle.avro_types.specs.Node.{Node}
-use Rattle.resolver.specs.Options.{given}
+use Rattle.spec_avro.specs.Node.{Node}
+use Rattle.spec_avro.specs.Options.{given}
 use Rattle.isa.specs.Program.{Program}
 use Rattle.isa.specs.Row.{row_of}
 use Rattle.isa.specs.State as state
 use Rattle.isa.specs.State.{State}
-use Rattle.avro_bytes.specs.declared.limits.TheConstants.{MOST_PAYLOAD}
+use Rattle.spec_avro.specs.declared.limits.TheConstants.{MOST_PAYLOAD}
 use Rattle.program_correctness.specs.Alone.{EndsAreLast, RowsAreCounted, RunsGoOn, rows_from, run_alone}
 use Rattle.program_correctness.specs.Simulation.{EndsWithOutcome}
 use Rattle.machine.specs.Ending.{LeadsToOutcome}

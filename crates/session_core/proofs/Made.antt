@@ -2,12 +2,12 @@
 use Rattle.std.proofs.Common.{◌≡◌, ◌≤◌, ◌<◌, ◌+◌, ◌-◌, ◌^◌, ℕ, zero, suc, Bool, true, false, List, [], length, Option, Some, None, refl, sym, ap, ◌∙◌, subst, arith}
 use Rattle.std.specs.Prelude.{◌&&◌, if◌then◌else◌, is_some, nat_lt, not, option_map}
 use Rattle.std.specs.Option.{option_and_then, option_map_or}
-use Rattle.resolver.specs.Options.{given}
+use Rattle.spec_avro.specs.Options.{given}
 use Rattle.isa.specs.Program.{Program}
 use Rattle.isa.specs.Row.{row_of}
 use Rattle.isa.specs.State.{State, start}
 use Rattle.machine.specs.Laws.Rows.{one_row}
-use Rattle.avro_bytes.specs.declared.limits.TheConstants.{MOST_PAYLOAD}
+use Rattle.spec_avro.specs.declared.limits.TheConstants.{MOST_PAYLOAD}
 use Rattle.program_correctness.specs.Alone.{RowsAreCounted, RunsGoOn, rows_from, run_alone}
 use Rattle.session_core.specs.Changes.{refused, with_piece}
 use Rattle.session_core.specs.SessionKept.{AreSet, IsMade, IsSession, fed, finished_if, remade, walked, with_breaks}

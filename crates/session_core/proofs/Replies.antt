@@ -1,7 +1,7 @@
 -- What a registry replies to a command that it accepts.
 use Rattle.std.proofs.Common.{◌≡◌, ◌<◌, refl, length, ℕ, Bool, true, false, List, [], ◌∷◌, ◌++◌, Option, Some, None, inl, inr, ap, subst, sym, ◌∙◌}
 use Rattle.std.specs.Prelude.{Result, Ok, Err, IfErr, IsSome, OnOk, OnErr, if◌then◌else◌}
-use Rattle.avro_types.specs.declared.limits.TheConstants.{MOST_TEXT}
+use Rattle.spec_avro.specs.declared.limits.TheConstants.{MOST_TEXT}
 use Rattle.avro_schema.specs.Schema.{Declaration}
 use Rattle.avro_schema.proofs.Declared.{too-large}
 use Rattle.avro_schema_names.specs.declared.error.SchemaError.TheVariants.{TooLarge}

@@ -1,6 +1,6 @@
 -- What else is done to a session, and why it is refused. All of this is this project's own.
 use Rattle.std.specs.Prelude.{◌≡◌, ◌≢◌, ◌<◌, ℕ, ◌+◌, List, ◌++◌, length, nat_le, nat_lt, true, if◌then◌else◌, Option, Some, None, Result, Ok, Err, is_some}
-use Rattle.avro_bytes.specs.declared.limits.TheConstants.{MOST_PAYLOAD}
+use Rattle.spec_avro.specs.declared.limits.TheConstants.{MOST_PAYLOAD}
 use Rattle.session_core.specs.declared.limits.TheConstants.{MOST_BREAKS}
 use Rattle.session_core.specs.declared.session_refusal.BreakRefusal.{BreakRefusal}
 use Rattle.session_core.specs.declared.session_refusal.BreakRefusal.TheVariants.{BadAddress, TooManyBreaks}

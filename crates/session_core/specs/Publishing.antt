@@ -1,6 +1,6 @@
 -- What a store of programs answers for a pair of schemas. All of this is this project's own.
 use Rattle.std.specs.Prelude.{◌≡◌, List, Some, None, Result, Ok, Err}
-use Rattle.avro_types.specs.Node.{Node}
+use Rattle.spec_avro.specs.Node.{Node}
 use Rattle.std.proofs.Common.{Bor}
 use Rattle.isa.specs.Program.{Program}
 use Rattle.program_definition.specs.Code.{code_of}

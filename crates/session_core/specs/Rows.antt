@@ -1,7 +1,7 @@
 -- How many rows are taken of a session. All of this is this project's own.
 use Rattle.std.specs.Prelude.{◌≡◌, ◌<◌, ◌⊎◌, ℕ, zero, suc, ◌+◌, ◌-◌, ◌^◌, ◌==◌, ◌||◌, Bool, true, List, [], Some, if◌then◌else◌, slice_get}
 use Rattle.std.specs.Option.{option_map_or}
-use Rattle.resolver.specs.Options.{given}
+use Rattle.spec_avro.specs.Options.{given}
 use Rattle.isa.specs.Program.{Program}
 use Rattle.isa.specs.Row.{row_of}
 use Rattle.isa.specs.State.{State}

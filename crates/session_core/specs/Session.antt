@@ -2,7 +2,7 @@
 use Rattle.std.specs.Prelude.{◌==◌, ℕ, List, [], ◌∷◌, ◌++◌, filter, Bool, false, not, if◌then◌else◌, Option, Some, option_map}
 use Rattle.std.specs.List.{list_any}
 use Rattle.std.specs.Option.{option_and_then}
-use Rattle.avro_bytes.specs.Outcome.{Outcome}
+use Rattle.spec_avro.specs.Outcome.{Outcome}
 use Rattle.isa.specs.declared.end.Trap.{Trap}
 use Rattle.isa.specs.Program.{Program}
 use Rattle.isa.specs.State as state

@@ -1,6 +1,6 @@
 -- How a session ends, and one of a pair of schemas. All of this is this project's own.
 use Rattle.std.specs.Prelude.{◌≡◌, ◌≤◌, ◌<◌, ◌+◌, ◌^◌, ℕ, [], List, Some, is_some, true}
-use Rattle.avro_types.specs.Node.{Node}
+use Rattle.spec_avro.specs.Node.{Node}
 use Rattle.isa.specs.State.{State}
 use Rattle.machine.specs.Ending.{LeadsToOutcome}
 use Rattle.avro_bytes.specs.Outcome.{outcome_of}

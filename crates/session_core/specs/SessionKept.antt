@@ -2,7 +2,7 @@
 use Rattle.std.specs.Prelude.{◌≡◌, ◌≤◌, ◌<◌, ℕ, ◌+◌, Bool, true, false, List, [], ◌∷◌, length, Some, None, if◌then◌else◌}
 use Rattle.std.specs.List.{AllByRecursion}
 use Rattle.isa.specs.State.{State}
-use Rattle.avro_bytes.specs.declared.limits.TheConstants.{MOST_PAYLOAD}
+use Rattle.spec_avro.specs.declared.limits.TheConstants.{MOST_PAYLOAD}
 use Rattle.session_core.specs.declared.limits.TheConstants.{MOST_BREAKS}
 use Rattle.session_core.specs.Changes.{break_refusal, finished, piece_refusal, refused, set_at, with_piece}
 use Rattle.session_core.specs.Rows.{walk_rows}

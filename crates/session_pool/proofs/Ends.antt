@@ -3,12 +3,12 @@ use Rattle.std.proofs.Common.{◌≡◌, ℕ, List, [], Bool, true, false, Optio
 use Rattle.std.specs.Prelude.{option_map}
 use Rattle.std.specs.Option.{option_and_then}
 use Rattle.std.proofs.lemmas.Option.{none-some, same_Some}
-use Rattle.avro_types.specs.Node.{Node}
+use Rattle.spec_avro.specs.Node.{Node}
 use Rattle.isa.specs.State as state
 use Rattle.isa.specs.State.{State}
 use Rattle.isa.specs.Program.{Program}
-use Rattle.avro_bytes.specs.Outcome.{Outcome}
-use Rattle.resolver.specs.Outcome.{IsOutcome}
+use Rattle.spec_avro.specs.Outcome.{Outcome}
+use Rattle.spec_avro.specs.PayloadOutcome.{IsOutcome}
 use Rattle.program_definition.specs.Code.{code_of}
 use Rattle.program_correctness.specs.Alone.{run_alone}
 use Rattle.program_correctness.specs.Simulation.{EachEndIsOutcome, EarlyEndIsOutcome, IsOutcomeOf}

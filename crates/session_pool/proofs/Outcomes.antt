@@ -1,6 +1,6 @@
 -- What a session that has ended finishes.
 use Rattle.std.proofs.Common.{◌≡◌, ℕ, List, Some, sym, ap, ◌∙◌, subst, arith}
-use Rattle.avro_types.specs.Node.{Node}
+use Rattle.spec_avro.specs.Node.{Node}
 use Rattle.isa.specs.Program.{Program}
 use Rattle.program_correctness.specs.Alone.{run_alone}
 use Rattle.session_core.specs.SessionEnding.{end_of}

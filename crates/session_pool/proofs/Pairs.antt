@@ -1,6 +1,6 @@
 -- A pair of schemas, as a pass keeps it.
 use Rattle.std.proofs.Common.{◌≡◌, List, Some, subst, sym}
-use Rattle.avro_types.specs.Node.{Node}
+use Rattle.spec_avro.specs.Node.{Node}
 use Rattle.avro_schema.specs.Schema.{Declaration}
 use Rattle.isa.specs.Program.{Program}
 use Rattle.machine.specs.ProgramPair.{Pair}

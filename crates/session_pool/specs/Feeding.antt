@@ -1,6 +1,6 @@
 -- Why a piece is refused. All of this is this project's own.
 use Rattle.std.specs.Prelude.{◌≡◌, ◌<◌, ℕ, ◌+◌, List, length, true}
-use Rattle.avro_bytes.specs.declared.limits.TheConstants.{MOST_PAYLOAD}
+use Rattle.spec_avro.specs.declared.limits.TheConstants.{MOST_PAYLOAD}
 use Rattle.session_core.specs.declared.session_refusal.PieceRefusal.{PieceRefusal}
 use Rattle.session_core.specs.declared.session_refusal.PieceRefusal.TheVariants as session
 use Rattle.session_pool_slots.specs.Account.{Account}

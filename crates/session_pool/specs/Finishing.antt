@@ -1,10 +1,10 @@
 -- What a session came to. All of this is this project's own.
 use Rattle.std.specs.Prelude.{◌≡◌, ◌≤◌, ◌⊎◌, ℕ, List, Some, None}
-use Rattle.avro_types.specs.Node.{Node}
+use Rattle.spec_avro.specs.Node.{Node}
 use Rattle.isa.specs.State as state
 use Rattle.isa.specs.State.{State}
 use Rattle.program_correctness.specs.Alone.{run_alone}
-use Rattle.resolver.specs.Outcome.{IsOutcome}
+use Rattle.spec_avro.specs.PayloadOutcome.{IsOutcome}
 use Rattle.session_core.specs.SessionEnding.{end_of}
 use Rattle.session_core.specs.SessionKept.{IsSession}
 use Rattle.session_core.specs.Session.{OutOfMemory, Out, Session, SessionEnd, Trapped, end_in}

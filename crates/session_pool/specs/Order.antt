@@ -2,8 +2,7 @@
 -- First it looks into its own deque, then into each other worker's, then at all slots. A seat has a list of the words
 -- that it found, and one of the numbers that it took for each deque: what came first is shown by the seat in between,
 -- to which one part of the search led and from which the next went on.
-use Rattle.std.specs.Prelude.{◌≡◌, ◌≢◌, ◌<◌, ◌≤◌, ◌⊎◌, ℕ, ◌+◌, List, [], ◌∷◌, ◌++◌, Option, Some, None}
-use Rattle.std.specs.Prelude.{MatchOption}
+use Rattle.std.specs.Prelude.{◌≡◌, ◌≢◌, ◌<◌, ◌≤◌, ◌⊎◌, ℕ, ◌+◌, List, [], ◌∷◌, ◌++◌, Option, Some, None, MatchOption}
 use Rattle.session_pool_jobs.specs.declared.seat.JobSeat.{JobSeat}
 use Rattle.session_pool_jobs.specs.Calls.{HasNoRoom, Puts, Stays, Steals, Takes}
 use Rattle.session_pool_jobs.specs.Seats.{number_of, workers_of}

@@ -10,8 +10,7 @@ use session_pool_slots::{READY, SLOTS, SlotSeat};
 
 impl<'p> SessionPool<'p> {
     ghost use Rattle.session_pool.specs.Seats.{RestsWorker};
-    ghost use Rattle.session_pool.specs.Order.{Comes, JobsMiss, Leads, Misses, OwnLeads, OwnMisses};
-    ghost use Rattle.session_pool.specs.Order.{KeepsFurther, KeepsOne, Scans, StealsLead, StealsMiss};
+    ghost use Rattle.session_pool.specs.Order.{Comes, JobsMiss, Leads, Misses, OwnLeads, OwnMisses, KeepsFurther, KeepsOne, Scans, StealsLead, StealsMiss};
     ghost use Rattle.session_pool.specs.Searching.{FindsByJobs, FindsReady, LooksOn};
 
     /// Takes a session that is ready, and returns the index of its slot: by one of the worker's own jobs, else by one

@@ -1,6 +1,5 @@
 -- What each call does to a seat. All of this is this project's own.
-use Rattle.std.specs.Prelude.{◌≡◌, ◌≢◌, ◌≤◌, ◌⊎◌, ℕ, ◌+◌, ◌-◌, List, [], ◌∷◌, ◌++◌, All, length, Option, Some, None}
-use Rattle.std.specs.Prelude.{slice_get}
+use Rattle.std.specs.Prelude.{◌≡◌, ◌≢◌, ◌≤◌, ◌⊎◌, ℕ, ◌+◌, ◌-◌, List, [], ◌∷◌, ◌++◌, All, length, Option, Some, None, slice_get}
 use Rattle.session_pool_jobs.specs.declared.jobs.Jobs.{Jobs}
 use Rattle.session_pool_jobs.specs.declared.limits.TheConstants.{MOST_KEPT}
 use Rattle.session_pool_jobs.specs.declared.seat.JobSeat.{JobSeat}

@@ -1,7 +1,6 @@
 //! The ids that are asked for, and the failures that are remembered.
 
-ghost use Rattle.std.specs.Prelude.{◌≡◌, ◌∷◌, ◌++◌, ◌+◌, ◌<◌, ◌≤◌, [], true, IfSome, MatchOption, OnErr, OnOk};
-ghost use Rattle.std.specs.Prelude.{vec_len, vec_capacity};
+ghost use Rattle.std.specs.Prelude.{◌≡◌, ◌∷◌, ◌++◌, ◌+◌, ◌<◌, ◌≤◌, [], true, IfSome, MatchOption, OnErr, OnOk, vec_len, vec_capacity};
 ghost use Rattle.upstream_schemas.specs.Asking.{IsWhyUnheld};
 ghost use Rattle.upstream_fetching.specs.Asked.{IfFailed, IfWaits, is_asked};
 ghost use Rattle.upstream_fetching.specs.declared.limits.TheConstants.{MOST_ASKED, MOST_FAILURES};

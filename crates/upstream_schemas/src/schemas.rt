@@ -87,7 +87,7 @@ fn unkept<U: Upstream>(fault: KeepFault) -> Fault
     }
 }
 
-/// Returns the schema that a text declares, which is one of an id.
+/// Returns the schema that a text declares, which is one of an id. `id` is read by the clauses alone.
 fn schema_for<U: Upstream>(alloc: Global, id: u32, text: &String) -> Result<Schema, Fault>
     requires { IsTextOf U.heard U.kept id (string_bytes text.now) }
     ensures schema { IfOk result (λ schema. declaration_of (string_bytes text.now) ≡ Ok schema) }

@@ -1,9 +1,11 @@
 -- One part after another: what is complete, what stays as it was decided, and what is faulty.
 use Rattle.std.proofs.Common.{◌≡◌, ◌≢◌, ℕ, ◌+◌, ◌≤◌, List, ◌++◌, length, drop, refl, sym, ap, ◌∙◌, arith, add_assoc}
 use Rattle.std.proofs.lemmas.List.{drop_at, drop-drop, length-append, length-drop}
-use Rattle.avro_bytes.specs.declared.meter.Meter.{Meter}
-use Rattle.avro_bytes.specs.Decoding.{Complete, Decoding, Defect, Failed, Malformed, Need, Stands, map_decoding, ◌>>=◌}
-use Rattle.avro_bytes.specs.Fault.{HasDefect, failing, shifted}
+use Rattle.spec_avro.specs.declared.meter.Meter.{Meter}
+use Rattle.avro_bytes.specs.Decoding.{Complete, Decoding, Failed, Stands, map_decoding, ◌>>=◌}
+use Rattle.spec_avro.specs.Defect.{Defect, Malformed, Need}
+use Rattle.avro_bytes.specs.Fault.{HasDefect, failing}
+use Rattle.spec_avro.specs.Fault.{shifted}
 
 pub complete_is : {V : Type 0} {v w : V} {to next : ℕ} {m after : Meter} → Complete v to m ≡ Complete w next after → (v ≡ w) × (to ≡ next) × (m ≡ after)
 complete_is e = (cc, cc, cc)

@@ -1,10 +1,13 @@
 -- The first fault of a content, both ways: what is reported is there, and what is there is reported.
 use Rattle.std.proofs.Common.{◌≡◌, ℕ, ◌+◌, List, ◌++◌, length, drop, ap, subst, ◌∙◌, append_assoc, arith, inl, inr}
 use Rattle.std.proofs.lemmas.List.{length-append}
-use Rattle.avro_bytes.specs.declared.meter.Meter.{Meter}
-use Rattle.avro_bytes.specs.Blob.{FaultyFixed, content_at, fixed_at}
-use Rattle.avro_bytes.specs.Decoding.{Complete, Decoding, Defect, Failed, Malformed, Need, ◌>>=◌}
-use Rattle.avro_bytes.specs.Fault.{FaultyContent, FaultyLength, HasDefect, ContentNeedsMore, failing, shifted}
+use Rattle.spec_avro.specs.declared.meter.Meter.{Meter}
+use Rattle.spec_avro.specs.Blob.{FaultyFixed}
+use Rattle.avro_bytes.specs.Blob.{content_at, fixed_at}
+use Rattle.avro_bytes.specs.Decoding.{Complete, Decoding, Failed, ◌>>=◌}
+use Rattle.spec_avro.specs.Defect.{Defect, Malformed, Need}
+use Rattle.spec_avro.specs.Fault.{FaultyContent, FaultyLength, ContentNeedsMore, shifted}
+use Rattle.avro_bytes.specs.Fault.{HasDefect, failing}
 use Rattle.avro_bytes.specs.Length.{length_at}
 use Rattle.avro_bytes.specs.Laws.Binds.{defect_after, defect_as, defect_then, failing_then, rest_after}
 use Rattle.avro_bytes.specs.Laws.Blobs.{sized_content}

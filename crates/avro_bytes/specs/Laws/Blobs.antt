@@ -1,12 +1,15 @@
 -- Bytes after their length: what is read is spelled so, what is spelled is read, and what is decided stays so.
 use Rattle.std.proofs.Common.{◌≡◌, ◌≢◌, ℕ, ◌+◌, ◌≤◌, List, ◌++◌, length, take, drop, pos, refl, sym, ap, subst, ◌∙◌, append_assoc, arith}
 use Rattle.std.proofs.lemmas.List.{drop_at, take_at, length-append}
-use Rattle.avro_bytes.specs.declared.limits.TheConstants.{MOST_CONTENT}
-use Rattle.avro_bytes.specs.declared.meter.Meter.{Meter}
-use Rattle.avro_bytes.specs.Blob.{IsBlob, content_at, fixed_at}
-use Rattle.avro_bytes.specs.Decoding.{Complete, Decoding, Defect, Failed, Need, Stands, ◌>>=◌}
-use Rattle.avro_bytes.specs.Length.{SpellsLength, length_at}
-use Rattle.avro_bytes.specs.Number.{IsNumber, long_limit}
+use Rattle.spec_avro.specs.declared.limits.TheConstants.{MOST_CONTENT}
+use Rattle.spec_avro.specs.declared.meter.Meter.{Meter}
+use Rattle.spec_avro.specs.Blob.{IsBlob}
+use Rattle.avro_bytes.specs.Blob.{content_at, fixed_at}
+use Rattle.avro_bytes.specs.Decoding.{Complete, Decoding, Failed, Stands, ◌>>=◌}
+use Rattle.spec_avro.specs.Defect.{Defect, Need}
+use Rattle.spec_avro.specs.Length.{SpellsLength}
+use Rattle.avro_bytes.specs.Length.{length_at}
+use Rattle.spec_avro.specs.Number.{IsNumber, long_limit}
 use Rattle.avro_bytes.specs.Laws.Binds.{rest_after, stands_within, then_complete, then_steady}
 use Rattle.avro_bytes.specs.Laws.Fixeds.{fixed_complete, fixed_sound, fixed_steady}
 use Rattle.avro_bytes.specs.Laws.Lengths.{length_again, length_sound, length_steady}

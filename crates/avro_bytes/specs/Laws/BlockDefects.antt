@@ -1,15 +1,17 @@
 -- The first fault of a walk over blocks, both ways: what is reported is there, and what is there is reported.
 use Rattle.std.proofs.Common.{◌≡◌, ℕ, zero, suc, ◌+◌, ◌<◌, ◌⊎◌, List, ◌++◌, length, drop, Option, Some, None, Bool, true, false, cond, ℤ, pos, negsuc, refl, sym, ap, subst, ◌∙◌, append_assoc, arith, inl, inr, lit<}
 use Rattle.std.proofs.lemmas.List.{length-append}
-use Rattle.avro_bytes.specs.declared.fault.MalformedKind.TheVariants.{BadBlock}
-use Rattle.avro_bytes.specs.declared.meter.Meter.{Meter}
+use Rattle.spec_avro.specs.declared.malformed.MalformedKind.TheVariants.{BadBlock}
+use Rattle.spec_avro.specs.declared.meter.Meter.{Meter}
 use Rattle.avro_bytes.specs.BlockDecoding.{after_count, is_met, item_at, next_block, next_item, sized_block}
-use Rattle.avro_bytes.specs.BlockFault.{BeginsBlock, FaultyHead, IsFaultySize, IsRefusedFirst}
-use Rattle.avro_bytes.specs.Blocks.{IsHead}
-use Rattle.avro_bytes.specs.Decoding.{Complete, Decoding, Defect, Failed, Malformed, Stands, ◌>>=◌}
-use Rattle.avro_bytes.specs.Fault.{FaultyNumber, HasDefect, failing, shifted}
-use Rattle.avro_bytes.specs.Meter.{RefusesItem}
-use Rattle.avro_bytes.specs.Number.{IsNumber, long_limit}
+use Rattle.spec_avro.specs.BlockFault.{BeginsBlock, FaultyHead, IsFaultySize, IsRefusedFirst}
+use Rattle.spec_avro.specs.Blocks.{IsHead}
+use Rattle.avro_bytes.specs.Decoding.{Complete, Decoding, Failed, Stands, ◌>>=◌}
+use Rattle.spec_avro.specs.Defect.{Defect, Malformed}
+use Rattle.spec_avro.specs.Fault.{FaultyNumber, shifted}
+use Rattle.avro_bytes.specs.Fault.{HasDefect, failing}
+use Rattle.spec_avro.specs.Meter.{RefusesItem}
+use Rattle.spec_avro.specs.Number.{IsNumber, long_limit}
 use Rattle.avro_bytes.specs.NumberDecoding.{number_at}
 use Rattle.avro_bytes.specs.Walk.{Walk}
 use Rattle.avro_bytes.specs.Walking.{IsMet}

@@ -1,10 +1,10 @@
 -- Where a walk over blocks ends, their end is spelled; and a walk begins before all of the items.
 use Rattle.std.proofs.Common.{◌≡◌, ℕ, zero, suc, List, [], ◌∷◌, ◌++◌, length, None, ℤ, pos, negsuc, refl, sym, subst, ◌∙◌, arith, lit<}
-use Rattle.avro_bytes.specs.declared.meter.Meter.{Meter}
+use Rattle.spec_avro.specs.declared.meter.Meter.{Meter}
 use Rattle.avro_bytes.specs.BlockDecoding.{after_count, is_met, item_at, next_block, next_item, sized_block}
-use Rattle.avro_bytes.specs.Blocks.{IsBlocks, IsItems, joined}
+use Rattle.spec_avro.specs.Blocks.{IsBlocks, IsItems, joined}
 use Rattle.avro_bytes.specs.Decoding.{Complete, Stands}
-use Rattle.avro_bytes.specs.Number.{IsNumber, long_limit}
+use Rattle.spec_avro.specs.Number.{IsNumber, long_limit}
 use Rattle.avro_bytes.specs.NumberDecoding.{number_at}
 use Rattle.avro_bytes.specs.Walk.{Walk, first_walk}
 use Rattle.avro_bytes.specs.Walking.{Remains}

@@ -2,11 +2,11 @@
 use Rattle.std.proofs.Common.{◌≡◌, ℕ, zero, suc, ◌+◌, ◌-◌, List, [], ◌∷◌, ◌++◌, length, drop, Option, Some, None, true, ℤ, pos, negsuc, refl, sym, ap, subst, ◌∙◌, append_assoc, arith, lit<}
 use Rattle.std.proofs.lemmas.Bool.{eqb-true}
 use Rattle.std.proofs.lemmas.List.{length-append}
-use Rattle.avro_bytes.specs.declared.meter.Meter.{Meter}
+use Rattle.spec_avro.specs.declared.meter.Meter.{Meter}
 use Rattle.avro_bytes.specs.BlockDecoding.{after_count, has_size, is_met, item_at, next_block, next_item, sized_block}
-use Rattle.avro_bytes.specs.Blocks.{IsHead, IsItems, SizeIs, joined}
+use Rattle.spec_avro.specs.Blocks.{IsHead, IsItems, SizeIs, joined}
 use Rattle.avro_bytes.specs.Decoding.{Complete, Stands}
-use Rattle.avro_bytes.specs.Number.{IsNumber, long_limit}
+use Rattle.spec_avro.specs.Number.{IsNumber, long_limit}
 use Rattle.avro_bytes.specs.NumberDecoding.{number_at}
 use Rattle.avro_bytes.specs.Walk.{Walk}
 use Rattle.avro_bytes.specs.Walking.{IsMet, Leads, Remains}

@@ -2,13 +2,14 @@
 use Rattle.std.proofs.Common.{◌≡◌, ℕ, zero, suc, ◌+◌, ◌-◌, List, [], ◌∷◌, ◌++◌, length, Option, Some, None, Bool, true, cond, ℤ, pos, negsuc, refl, sym, ap, subst, ◌∙◌, append_assoc, arith}
 use Rattle.std.proofs.lemmas.Bool.{eq-eqb}
 use Rattle.std.proofs.lemmas.List.{length-append}
-use Rattle.avro_bytes.specs.declared.fault.MalformedKind.TheVariants.{BadBlock}
-use Rattle.avro_bytes.specs.declared.meter.Meter.{Meter}
+use Rattle.spec_avro.specs.declared.malformed.MalformedKind.TheVariants.{BadBlock}
+use Rattle.spec_avro.specs.declared.meter.Meter.{Meter}
 use Rattle.avro_bytes.specs.BlockDecoding.{after_count, has_size, is_met, item_at, next_block, next_item, sized_block}
-use Rattle.avro_bytes.specs.Blocks.{IsBlocks, IsHead, IsItems, SizeIs, joined}
-use Rattle.avro_bytes.specs.Decoding.{Complete, Decoding, Failed, Malformed, ◌>>=◌}
+use Rattle.spec_avro.specs.Blocks.{IsBlocks, IsHead, IsItems, SizeIs, joined}
+use Rattle.avro_bytes.specs.Decoding.{Complete, Decoding, Failed, ◌>>=◌}
+use Rattle.spec_avro.specs.Defect.{Malformed}
 use Rattle.avro_bytes.specs.Meter.{closed_blocks}
-use Rattle.avro_bytes.specs.Number.{IsNumber, long_limit}
+use Rattle.spec_avro.specs.Number.{IsNumber, long_limit}
 use Rattle.avro_bytes.specs.NumberDecoding.{number_at}
 use Rattle.avro_bytes.specs.Walk.{Walk}
 use Rattle.avro_bytes.specs.Walking.{Comes, IsMet, Remains}

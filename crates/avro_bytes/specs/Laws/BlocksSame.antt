@@ -1,12 +1,14 @@
 -- A walk over blocks stays as it was decided, and the same bytes lead it to one item alone, or to the end.
 use Rattle.std.proofs.Common.{◌≡◌, ◌≢◌, ℕ, zero, suc, ◌+◌, ◌≤◌, List, [], ◌++◌, length, take, replicate, Option, Some, None, Bool, true, false, cond, ℤ, pos, negsuc, refl, sym, ap, subst, ◌∙◌, append_assoc, arith, lit<}
 use Rattle.std.proofs.lemmas.List.{append_cancel_left, length-replicate, take_at}
-use Rattle.avro_bytes.specs.declared.fault.MalformedKind.TheVariants.{BadBlock}
-use Rattle.avro_bytes.specs.declared.meter.Meter.{Meter}
+use Rattle.spec_avro.specs.declared.malformed.MalformedKind.TheVariants.{BadBlock}
+use Rattle.spec_avro.specs.declared.meter.Meter.{Meter}
 use Rattle.avro_bytes.specs.BlockDecoding.{after_count, is_met, item_at, next_block, next_item, sized_block}
-use Rattle.avro_bytes.specs.Decoding.{Complete, Decoding, Failed, Malformed, Need}
-use Rattle.avro_bytes.specs.Meter.{closed_blocks, start}
-use Rattle.avro_bytes.specs.Number.{IsNumber, long_limit}
+use Rattle.avro_bytes.specs.Decoding.{Complete, Decoding, Failed}
+use Rattle.spec_avro.specs.Defect.{Malformed, Need}
+use Rattle.avro_bytes.specs.Meter.{closed_blocks}
+use Rattle.spec_avro.specs.Meter.{start}
+use Rattle.spec_avro.specs.Number.{IsNumber, long_limit}
 use Rattle.avro_bytes.specs.NumberDecoding.{number_at}
 use Rattle.avro_bytes.specs.Walk.{Walk}
 use Rattle.avro_bytes.specs.Walking.{Comes, Remains}

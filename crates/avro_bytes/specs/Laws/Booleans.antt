@@ -3,11 +3,13 @@ use Rattle.std.proofs.Common.{◌≡◌, ◌≢◌, ℕ, ◌+◌, ◌<◌, ◌�
 use Rattle.std.proofs.lemmas.Bool.{eqb-true, eqb-false}
 use Rattle.std.proofs.lemmas.Bool.Decides.{nat_tests}
 use Rattle.std.proofs.lemmas.List.{drop_at, drop_all, drop_more, drop-append-le}
-use Rattle.avro_bytes.specs.declared.meter.Meter.{Meter}
-use Rattle.avro_bytes.specs.declared.fault.MalformedKind.TheVariants.{BadBoolean}
-use Rattle.avro_bytes.specs.Boolean.{IsBoolean, IsAboveOne, FaultyBoolean, boolean_at, boolean_byte, boolean_of}
+use Rattle.spec_avro.specs.declared.meter.Meter.{Meter}
+use Rattle.spec_avro.specs.declared.malformed.MalformedKind.TheVariants.{BadBoolean}
+use Rattle.spec_avro.specs.Boolean.{IsBoolean, IsAboveOne, FaultyBoolean, boolean_byte}
+use Rattle.avro_bytes.specs.Boolean.{boolean_at, boolean_of}
 use Rattle.avro_bytes.specs.Laws.Binds.{complete_is}
-use Rattle.avro_bytes.specs.Decoding.{Complete, Defect, Failed, Malformed, Need, Stands}
+use Rattle.avro_bytes.specs.Decoding.{Complete, Failed, Stands}
+use Rattle.spec_avro.specs.Defect.{Defect, Malformed, Need}
 use Rattle.avro_bytes.specs.Fault.{HasDefect, failing}
 
 -- ---- what is at an offset

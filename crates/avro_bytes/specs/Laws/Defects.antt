@@ -2,12 +2,14 @@
 use Rattle.std.proofs.Common.{◌≡◌, ℕ, zero, suc, ◌+◌, ◌<◌, ◌≤◌, List, [], ◌∷◌, ◌++◌, length, drop, refl, sym, ap, ◌∙◌, arith, inl, inr}
 use Rattle.std.proofs.lemmas.Bool.{le-ltb, lt-ltb, cases_lt}
 use Rattle.std.proofs.lemmas.List.{drop_at}
-use Rattle.avro_bytes.specs.declared.meter.Meter.{Meter}
-use Rattle.avro_bytes.specs.declared.fault.MalformedKind.TheVariants.{BadNumber}
-use Rattle.avro_bytes.specs.Number.{Limit}
+use Rattle.spec_avro.specs.declared.meter.Meter.{Meter}
+use Rattle.spec_avro.specs.declared.malformed.MalformedKind.TheVariants.{BadNumber}
+use Rattle.spec_avro.specs.Number.{Limit}
 use Rattle.avro_bytes.specs.NumberDecoding.{Front, Ends, TooGreat, Open, longer, number_front, number_of, number_at}
-use Rattle.avro_bytes.specs.Decoding.{Defect, Failed, Malformed, Need}
-use Rattle.avro_bytes.specs.Fault.{AllHigh, FaultyNumber, HasDefect, NumberNeedsMore, IsTooGreat, failing}
+use Rattle.spec_avro.specs.Defect.{Defect, Malformed, Need}
+use Rattle.avro_bytes.specs.Decoding.{Failed}
+use Rattle.spec_avro.specs.Fault.{AllHigh, FaultyNumber, NumberNeedsMore, IsTooGreat}
+use Rattle.avro_bytes.specs.Fault.{HasDefect, failing}
 
 -- ---- numbers
 

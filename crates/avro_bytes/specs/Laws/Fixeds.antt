@@ -2,10 +2,12 @@
 use Rattle.std.proofs.Common.{◌≡◌, ◌≢◌, ℕ, ◌+◌, ◌-◌, ◌<◌, ◌≤◌, List, ◌++◌, length, take, drop, Bool, true, false, cond, ltb, refl, sym, ap, ◌∙◌, arith, inl, inr}
 use Rattle.std.proofs.lemmas.Bool.{cases_lt, le-ltb, lt-ltb, ltb-true, ltb-false}
 use Rattle.std.proofs.lemmas.List.{drop_at, take_at, length-append, length-take, length-drop, take-append-drop, drop-append-le, take-append-le}
-use Rattle.avro_bytes.specs.declared.meter.Meter.{Meter}
-use Rattle.avro_bytes.specs.Blob.{IsFixed, FaultyFixed, fixed_at}
+use Rattle.spec_avro.specs.declared.meter.Meter.{Meter}
+use Rattle.spec_avro.specs.Blob.{IsFixed, FaultyFixed}
+use Rattle.avro_bytes.specs.Blob.{fixed_at}
 use Rattle.avro_bytes.specs.Laws.Binds.{complete_is}
-use Rattle.avro_bytes.specs.Decoding.{Complete, Defect, Failed, Malformed, Need, Stands}
+use Rattle.avro_bytes.specs.Decoding.{Complete, Failed, Stands}
+use Rattle.spec_avro.specs.Defect.{Defect, Malformed, Need}
 use Rattle.avro_bytes.specs.Fault.{HasDefect, failing}
 
 fixed_complete_is : (lacks : Bool) (content value : List ℕ) (place to : ℕ) (m after : Meter) → cond lacks (Failed Need) (Complete content place m) ≡ Complete value to after → (lacks ≡ false) × (content ≡ value) × (place ≡ to) × (m ≡ after)

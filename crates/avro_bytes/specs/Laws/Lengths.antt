@@ -1,13 +1,16 @@
 -- Lengths: what is read is spelled so, what is spelled is read, and the first fault, both ways.
 use Rattle.std.proofs.Common.{◌≡◌, ◌≢◌, ℕ, ◌+◌, ◌≤◌, List, ◌++◌, length, drop, Bool, true, false, cond, ltb, ℤ, pos, negsuc, refl, sym, ap, subst, ◌∙◌, arith, inl, inr, lit<}
 use Rattle.std.proofs.lemmas.Bool.{cases_lt, le-ltb, lt-ltb, ltb-false}
-use Rattle.avro_bytes.specs.declared.fault.MalformedKind.TheVariants.{BadLength}
-use Rattle.avro_bytes.specs.declared.limits.TheConstants.{MOST_CONTENT}
-use Rattle.avro_bytes.specs.declared.meter.Meter.{Meter}
-use Rattle.avro_bytes.specs.Decoding.{Complete, Decoding, Defect, Failed, Malformed, Need, Stands, ◌>>=◌}
-use Rattle.avro_bytes.specs.Fault.{FaultyLength, FaultyNumber, HasDefect, IsBadLength, IsLength, failing}
-use Rattle.avro_bytes.specs.Length.{SpellsLength, length_at, length_of}
-use Rattle.avro_bytes.specs.Number.{IsNumber, long_limit}
+use Rattle.spec_avro.specs.declared.malformed.MalformedKind.TheVariants.{BadLength}
+use Rattle.spec_avro.specs.declared.limits.TheConstants.{MOST_CONTENT}
+use Rattle.spec_avro.specs.declared.meter.Meter.{Meter}
+use Rattle.avro_bytes.specs.Decoding.{Complete, Decoding, Failed, Stands, ◌>>=◌}
+use Rattle.spec_avro.specs.Defect.{Defect, Malformed, Need}
+use Rattle.spec_avro.specs.Fault.{FaultyLength, FaultyNumber, IsBadLength, IsLength}
+use Rattle.avro_bytes.specs.Fault.{HasDefect, failing}
+use Rattle.spec_avro.specs.Length.{SpellsLength}
+use Rattle.avro_bytes.specs.Length.{length_at, length_of}
+use Rattle.spec_avro.specs.Number.{IsNumber, long_limit}
 use Rattle.avro_bytes.specs.NumberDecoding.{number_at}
 use Rattle.avro_bytes.specs.Laws.Binds.{complete_is, defect_as, defect_then, failing_then, then_complete, then_steady}
 use Rattle.avro_bytes.specs.Laws.Defects.{number_defect, number_told}

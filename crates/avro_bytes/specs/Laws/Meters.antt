@@ -2,14 +2,16 @@
 use Rattle.std.proofs.Common.{◌≡◌, ℕ, ◌+◌, ◌<◌, ◌≤◌, Ok, Err, Bool, true, false, cond, refl, sym, ap, ◌∙◌, arith, inl, inr}
 use Rattle.std.specs.Prelude.{nat_le}
 use Rattle.std.proofs.lemmas.Bool.{leb-true, leb-false, le-leb, lt-leb}
-use Rattle.avro_bytes.specs.declared.meter.Meter.{Meter}
+use Rattle.spec_avro.specs.declared.meter.Meter.{Meter}
 use Rattle.avro_bytes.specs.declared.fault.Fault.TheVariants as fault
-use Rattle.avro_bytes.specs.declared.fault.MalformedKind.{MalformedKind}
-use Rattle.avro_bytes.specs.declared.fault.MalformedKind.TheVariants.{TooDeep, TooMany}
-use Rattle.avro_bytes.specs.Meter.{opened_record, opened_item, opened_blocks, OpensRecord, OpensItem, OpensBlocks, RefusesRecord, RefusesItem, RefusesBlocks}
-use Rattle.avro_bytes.specs.Decoding.{Decoding, Defect, Failed, Malformed, inside}
+use Rattle.spec_avro.specs.declared.malformed.MalformedKind.{MalformedKind}
+use Rattle.spec_avro.specs.declared.malformed.MalformedKind.TheVariants.{TooDeep, TooMany}
+use Rattle.avro_bytes.specs.Meter.{opened_record, opened_item, opened_blocks}
+use Rattle.spec_avro.specs.Meter.{OpensRecord, OpensItem, OpensBlocks, RefusesRecord, RefusesItem, RefusesBlocks}
+use Rattle.avro_bytes.specs.Decoding.{Decoding, Failed, inside}
+use Rattle.spec_avro.specs.Defect.{Defect, Malformed}
 use Rattle.avro_bytes.specs.Fault.{HasDefect, failing}
-use Rattle.avro_bytes.specs.declared.limits.TheConstants.{MOST_DEPTH, MOST_UNITS}
+use Rattle.spec_avro.specs.declared.limits.TheConstants.{MOST_DEPTH, MOST_UNITS}
 
 abbrev within_record : Meter → Meter
 within_record m = record { depth = m.depth + 1; units = m.units + 1 }

@@ -3,12 +3,13 @@ use Rattle.std.proofs.Common.{◌≡◌, ℕ, zero, suc, ◌+◌, ◌-◌, ◌*�
 use Rattle.std.proofs.lemmas.Bool.{le-ltb, lt-ltb, cases_lt, eqb-true, eqb-false}
 use Rattle.std.proofs.lemmas.List.{drop_at, drop-append-le}
 use Rattle.std.proofs.Math.Numerals.{sub-one}
-use Rattle.avro_bytes.specs.declared.meter.Meter.{Meter}
-use Rattle.avro_bytes.specs.Number.{groups_sum, IsChained, zigzag, Limit, IsNumber}
+use Rattle.spec_avro.specs.declared.meter.Meter.{Meter}
+use Rattle.spec_avro.specs.Number.{groups_sum, IsChained, zigzag, Limit, IsNumber}
 use Rattle.avro_bytes.specs.NumberDecoding.{Front, Ends, TooGreat, Open, longer, number_front, from_zigzag, number_of, number_at}
 use Rattle.avro_bytes.specs.Laws.Binds.{complete_is}
 use Rattle.avro_bytes.specs.Laws.Groups.{ends_is, front_below, longer_ends}
-use Rattle.avro_bytes.specs.Decoding.{Complete, Failed, Need, Stands}
+use Rattle.avro_bytes.specs.Decoding.{Complete, Failed, Stands}
+use Rattle.spec_avro.specs.Defect.{Need}
 
 pub record Sound (left top : ℕ) (bytes ends : List ℕ) : Type 0 where
   pub rest : List ℕ

@@ -1,16 +1,19 @@
 -- Positions: what is read is spelled so, what is spelled is read, and the first fault, both ways.
 use Rattle.std.proofs.Common.{◌≡◌, ◌≢◌, ℕ, ◌+◌, ◌<◌, ◌≤◌, List, ◌++◌, length, drop, Bool, true, false, cond, ltb, ℤ, pos, negsuc, refl, sym, ap, subst, ◌∙◌, arith, inl, inr, lit<}
 use Rattle.std.proofs.lemmas.Bool.{lt-ltb, le-ltb, cases_lt, ltb-true}
-use Rattle.avro_bytes.specs.declared.meter.Meter.{Meter}
-use Rattle.avro_bytes.specs.declared.fault.MalformedKind.{MalformedKind}
-use Rattle.avro_bytes.specs.Number.{IsNumber, int_limit}
+use Rattle.spec_avro.specs.declared.meter.Meter.{Meter}
+use Rattle.spec_avro.specs.declared.malformed.MalformedKind.{MalformedKind}
+use Rattle.spec_avro.specs.Number.{IsNumber, int_limit}
 use Rattle.avro_bytes.specs.NumberDecoding.{number_at}
 use Rattle.avro_bytes.specs.Laws.Binds.{complete_is, defect_as, defect_then, failing_then, then_complete, then_steady}
 use Rattle.avro_bytes.specs.Laws.Defects.{number_defect, number_told}
 use Rattle.avro_bytes.specs.Laws.Numbers.{number_again, number_one_form, number_sound, number_steady, pos_is}
-use Rattle.avro_bytes.specs.Position.{IsPosition, IsBadPosition, FaultyPosition, SpellsPosition, position_at, position_of}
-use Rattle.avro_bytes.specs.Decoding.{Complete, Decoding, Defect, Failed, Malformed, Need, Stands, ◌>>=◌}
-use Rattle.avro_bytes.specs.Fault.{FaultyNumber, HasDefect, failing}
+use Rattle.spec_avro.specs.Position.{IsPosition, IsBadPosition, FaultyPosition, SpellsPosition}
+use Rattle.avro_bytes.specs.Position.{position_at, position_of}
+use Rattle.avro_bytes.specs.Decoding.{Complete, Decoding, Failed, Stands, ◌>>=◌}
+use Rattle.spec_avro.specs.Defect.{Defect, Malformed, Need}
+use Rattle.spec_avro.specs.Fault.{FaultyNumber}
+use Rattle.avro_bytes.specs.Fault.{HasDefect, failing}
 
 checked : (b : Bool) (bad : MalformedKind) (k at mid : ℕ) (m : Meter) (n to : ℕ) (after : Meter) → cond b (Complete k mid m) (Failed (Malformed bad at)) ≡ Complete n to after → (b ≡ true) × (k ≡ n) × (mid ≡ to) × (m ≡ after)
 checked true bad k at mid m n to after e = let w = complete_is e in (refl, w.0, w.1, w.2)

@@ -5,9 +5,10 @@ use Rattle.std.proofs.Math.Numerals.{sub-one}
 use Rattle.std.proofs.Math.Pow.{pow_mono}
 use Rattle.std.proofs.lemmas.Bool.{le-ltb, lt-ltb, cases_lt}
 use Rattle.std.proofs.lemmas.Nat.{div_below}
-use Rattle.avro_bytes.specs.Number.{IsChained, IsNumber, Limit, groups_sum, zigzag}
-use Rattle.avro_bytes.specs.Shortest.{Extends, FitsLimit, shortest, shortest_groups}
-use Rattle.avro_bytes.specs.declared.limits.TheConstants.{LONG_BYTES}
+use Rattle.spec_avro.specs.Number.{IsChained, IsNumber, Limit, groups_sum, zigzag}
+use Rattle.avro_bytes.specs.Shortest.{Extends, FitsLimit}
+use Rattle.spec_avro.specs.Shortest.{shortest, shortest_groups}
+use Rattle.spec_avro.specs.declared.limits.TheConstants.{LONG_BYTES}
 use Rattle.avro_bytes.specs.Laws.Groups.{power-next, scaled}
 
 -- what is written so far, and the groups that are left

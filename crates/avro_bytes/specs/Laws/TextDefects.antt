@@ -2,12 +2,14 @@
 use Rattle.std.proofs.Common.{◌≡◌, ℕ, ◌+◌, ◌-◌, List, ◌++◌, length, drop, Bool, true, false, cond, refl, sym, ap, ◌∙◌, arith, inl, inr}
 use Rattle.std.specs.Str.{IsUtf8, is_utf8}
 use Rattle.std.proofs.lemmas.Str.{is_utf8-from_IsUtf8}
-use Rattle.avro_bytes.specs.declared.fault.MalformedKind.{MalformedKind}
-use Rattle.avro_bytes.specs.declared.fault.MalformedKind.TheVariants.{BadText}
-use Rattle.avro_bytes.specs.declared.meter.Meter.{Meter}
+use Rattle.spec_avro.specs.declared.malformed.MalformedKind.{MalformedKind}
+use Rattle.spec_avro.specs.declared.malformed.MalformedKind.TheVariants.{BadText}
+use Rattle.spec_avro.specs.declared.meter.Meter.{Meter}
 use Rattle.avro_bytes.specs.Blob.{content_at}
-use Rattle.avro_bytes.specs.Decoding.{Complete, Decoding, Defect, Failed, Malformed, Need, ◌>>=◌}
-use Rattle.avro_bytes.specs.Fault.{FaultyContent, FaultyText, HasDefect, IsBadText, failing}
+use Rattle.avro_bytes.specs.Decoding.{Complete, Decoding, Failed, ◌>>=◌}
+use Rattle.spec_avro.specs.Defect.{Defect, Malformed, Need}
+use Rattle.spec_avro.specs.Fault.{FaultyContent, FaultyText, IsBadText}
+use Rattle.avro_bytes.specs.Fault.{HasDefect, failing}
 use Rattle.avro_bytes.specs.Text.{text_at, utf8_only}
 use Rattle.avro_bytes.specs.Laws.Binds.{defect_as, defect_then, failing_then}
 use Rattle.avro_bytes.specs.Laws.BlobDefects.{content_defect, content_told}

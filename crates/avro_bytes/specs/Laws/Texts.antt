@@ -3,12 +3,14 @@ use Rattle.std.proofs.Common.{◌≡◌, ◌≢◌, ℕ, ◌+◌, ◌-◌, ◌�
 use Rattle.std.specs.Str.{IsUtf8, is_utf8}
 use Rattle.std.proofs.lemmas.List.{drop_at, take_at, length-append}
 use Rattle.std.proofs.lemmas.Str.{is_utf8-from_IsUtf8, IsUtf8-from_is_utf8}
-use Rattle.avro_bytes.specs.declared.fault.MalformedKind.TheVariants.{BadText}
-use Rattle.avro_bytes.specs.declared.meter.Meter.{Meter}
+use Rattle.spec_avro.specs.declared.malformed.MalformedKind.TheVariants.{BadText}
+use Rattle.spec_avro.specs.declared.meter.Meter.{Meter}
 use Rattle.avro_bytes.specs.Blob.{content_at}
-use Rattle.avro_bytes.specs.Decoding.{Complete, Decoding, Failed, Malformed, Need, Stands, ◌>>=◌}
-use Rattle.avro_bytes.specs.Number.{long_limit}
-use Rattle.avro_bytes.specs.Text.{IsText, text_at, utf8_only}
+use Rattle.avro_bytes.specs.Decoding.{Complete, Decoding, Failed, Stands, ◌>>=◌}
+use Rattle.spec_avro.specs.Defect.{Malformed, Need}
+use Rattle.spec_avro.specs.Number.{long_limit}
+use Rattle.spec_avro.specs.Text.{IsText}
+use Rattle.avro_bytes.specs.Text.{text_at, utf8_only}
 use Rattle.avro_bytes.specs.Laws.Binds.{complete_is, then_complete, then_steady}
 use Rattle.avro_bytes.specs.Laws.Blobs.{content_again, content_parts, content_steady}
 use Rattle.avro_bytes.specs.Laws.Numbers.{number_one_form, pos_is}

@@ -1,9 +1,10 @@
 -- A spelling of one byte, or whose last byte adds something, is the shortest one.
 use Rattle.std.proofs.Common.{◌≡◌, ℕ, zero, suc, ◌+◌, ◌-◌, ◌/◌, ◌%◌, ◌<◌, ◌≤◌, List, [], ◌∷◌, refl, ap, ◌∙◌, arith, length, inl, inr, get_or, ℤ}
 use Rattle.std.proofs.lemmas.Bool.{le-ltb, lt-ltb}
-use Rattle.avro_bytes.specs.declared.limits.TheConstants.{LONG_BYTES}
-use Rattle.avro_bytes.specs.Number.{IsChained, IsNumber, Limit, groups_sum}
-use Rattle.avro_bytes.specs.Shortest.{AreBytes, IsTight, shortest, shortest_groups}
+use Rattle.spec_avro.specs.declared.limits.TheConstants.{LONG_BYTES}
+use Rattle.spec_avro.specs.Number.{IsChained, IsNumber, Limit, groups_sum}
+use Rattle.avro_bytes.specs.Shortest.{AreBytes, IsTight}
+use Rattle.spec_avro.specs.Shortest.{shortest, shortest_groups}
 
 later_last : (b d : ℕ) (bytes : List ℕ) → 0 < get_or (b ∷ d ∷ bytes) (length (b ∷ d ∷ bytes) - 1) 0 → 0 < get_or (d ∷ bytes) (length (d ∷ bytes) - 1) 0
 later_last b d bytes last =

@@ -2,13 +2,15 @@
 -- after the blocks.
 use Rattle.std.proofs.Common.{◌≡◌, ℕ, zero, suc, ◌+◌, ◌<◌, List, Option, Some, None, Result, Ok, Err, Bool, true, false, cond, ℤ, pos, negsuc, refl, sym, ap, subst, ◌∙◌, arith, lit<}
 use Rattle.avro_bytes.specs.declared.fault.Fault.{Fault}
-use Rattle.avro_bytes.specs.declared.fault.MalformedKind.TheVariants.{BadBlock}
-use Rattle.avro_bytes.specs.declared.limits.TheConstants.{MOST_UNITS}
-use Rattle.avro_bytes.specs.declared.meter.Meter.{Meter}
+use Rattle.spec_avro.specs.declared.malformed.MalformedKind.TheVariants.{BadBlock}
+use Rattle.spec_avro.specs.declared.limits.TheConstants.{MOST_UNITS}
+use Rattle.spec_avro.specs.declared.meter.Meter.{Meter}
 use Rattle.avro_bytes.specs.BlockDecoding.{after_count, is_met, item_at, next_block, next_item, sized_block}
-use Rattle.avro_bytes.specs.Decoding.{Complete, Failed, Malformed, inside}
-use Rattle.avro_bytes.specs.Meter.{OpensItem, closed_blocks, opened_item}
-use Rattle.avro_bytes.specs.Number.{long_limit}
+use Rattle.avro_bytes.specs.Decoding.{Complete, Failed, inside}
+use Rattle.spec_avro.specs.Defect.{Malformed}
+use Rattle.spec_avro.specs.Meter.{OpensItem}
+use Rattle.avro_bytes.specs.Meter.{closed_blocks, opened_item}
+use Rattle.spec_avro.specs.Number.{long_limit}
 use Rattle.avro_bytes.specs.NumberDecoding.{number_at}
 use Rattle.avro_bytes.specs.Walk.{Walk}
 use Rattle.avro_bytes.specs.Laws.Binds.{complete_is, then_complete}

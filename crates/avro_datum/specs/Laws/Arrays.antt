@@ -1,22 +1,24 @@
 -- Arrays: what is read is spelled so, what is spelled is read, and the first fault, both ways.
 use Rattle.std.proofs.Common.{◌≡◌, ◌≢◌, ℕ, ◌+◌, ◌-◌, ◌≤◌, max, List, [], ◌∷◌, ◌++◌, length, drop, Some, refl, sym, ap, subst, ◌∙◌, inl, inr, slice_get}
-use Rattle.avro_bytes.specs.declared.meter.Meter.{Meter}
-use Rattle.avro_bytes.specs.Meter.{Counts, OpensBlocks}
+use Rattle.spec_avro.specs.declared.meter.Meter.{Meter}
+use Rattle.spec_avro.specs.Meter.{Counts, OpensBlocks}
 use Rattle.avro_bytes.specs.Laws.Binds.{defect_map, failing_map}
-use Rattle.avro_types.specs.Node.{Node, ArrayNode}
-use Rattle.avro_types.specs.Datum.{Datum, Data, ArrayDatum, no_more, more}
+use Rattle.spec_avro.specs.Node.{Node, ArrayNode}
+use Rattle.spec_avro.specs.Datum.{Datum, Data, ArrayDatum, no_more, more}
 use Rattle.avro_datum.specs.Decoding.{Decoder, array_of, data_from}
-use Rattle.avro_datum.specs.Fault.{FaultyDatum, faulty_array, faulty_item, refused_array, faulty}
+use Rattle.spec_avro.specs.FaultyDatum.{FaultyDatum, faulty_array, faulty_item, refused_array, faulty}
 use Rattle.avro_datum.specs.ItemDecoding.{blocks_at}
-use Rattle.avro_datum.specs.ItemFault.{Begins, FaultyBlocks, SpellEach, deepest, units_all}
-use Rattle.avro_datum.specs.Spelling.{Spells, SpellsItems, depth_of, depth_of_data, units_of, units_of_items}
+use Rattle.spec_avro.specs.ItemFault.{Begins, FaultyBlocks, SpellEach, deepest, units_all}
+use Rattle.spec_avro.specs.Spelling.{Spells, SpellsItems, depth_of, depth_of_data, units_of, units_of_items}
 use Rattle.avro_datum.specs.Laws.Blocks.{SpellBlocks, around_told, blocks_complete, blocks_have_defect, blocks_sound, blocks_steady, within_told}
 use Rattle.avro_datum.specs.Laws.Decoders.{Deeper, HasFault, IsComplete, IsSound, IsSteady}
 use Rattle.avro_datum.specs.Laws.ItemFaults.{AtFault}
 use Rattle.avro_datum.specs.Laws.Parts.{map_steady, mapped, stands_as}
-use Rattle.avro_bytes.specs.Decoding.{Complete, Defect, Failed, Need, Stands, map_decoding}
-use Rattle.avro_bytes.specs.Fault.{HasDefect, failing, shifted}
-use Rattle.avro_bytes.specs.declared.limits.TheConstants.{MOST_DEPTH}
+use Rattle.avro_bytes.specs.Decoding.{Complete, Failed, Stands, map_decoding}
+use Rattle.spec_avro.specs.Defect.{Defect, Need}
+use Rattle.avro_bytes.specs.Fault.{HasDefect, failing}
+use Rattle.spec_avro.specs.Fault.{shifted}
+use Rattle.spec_avro.specs.declared.limits.TheConstants.{MOST_DEPTH}
 
 -- ---- data as a list
 

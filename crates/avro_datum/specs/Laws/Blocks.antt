@@ -1,15 +1,16 @@
 -- Arrays and maps as a whole: one level, and the items inside.
 use Rattle.std.proofs.Common.{◌≡◌, ◌≢◌, ℕ, suc, ◌+◌, ◌-◌, ◌≤◌, List, ◌++◌, length, drop, Result, refl, ap, ◌∙◌, arith}
-use Rattle.avro_bytes.specs.declared.meter.Meter.{Meter}
+use Rattle.spec_avro.specs.declared.meter.Meter.{Meter}
 use Rattle.avro_bytes.specs.declared.fault.Fault.{Fault}
 use Rattle.avro_bytes.specs.Walk.{first_walk}
-use Rattle.avro_bytes.specs.Blocks.{IsItems}
-use Rattle.avro_bytes.specs.Meter.{Counts, OpensBlocks, RefusesBlocks, closed_blocks, opened_blocks}
+use Rattle.spec_avro.specs.Blocks.{IsItems}
+use Rattle.spec_avro.specs.Meter.{Counts, OpensBlocks, RefusesBlocks}
+use Rattle.avro_bytes.specs.Meter.{closed_blocks, opened_blocks}
 use Rattle.avro_bytes.specs.Laws.Binds.{defect_as}
 use Rattle.avro_bytes.specs.Laws.BlockEnds.{first_remains}
 use Rattle.avro_bytes.specs.Laws.Meters.{blocks_defect, blocks_opened_again, blocks_were_opened, same_meter}
 use Rattle.avro_datum.specs.ItemDecoding.{Reader, blocks_at, items_at, steps_left}
-use Rattle.avro_datum.specs.ItemFault.{Begins, FaultyBlocks, SpellEach, deepest, units_all}
+use Rattle.spec_avro.specs.ItemFault.{Begins, FaultyBlocks, SpellEach, deepest, units_all}
 use Rattle.avro_datum.specs.Laws.Decoders.{Deeper}
 use Rattle.avro_datum.specs.Laws.ItemFaults.{AtFault}
 use Rattle.avro_datum.specs.Laws.Items.{ReadsSound, ReadsSteady, items_sound, items_steady}
@@ -17,9 +18,11 @@ use Rattle.avro_datum.specs.Laws.ItemsFaulty.{items_defect}
 use Rattle.avro_datum.specs.Laws.ItemsPassed.{ReadsComplete}
 use Rattle.avro_datum.specs.Laws.ItemsTold.{blocks_told, item_fault_told, items_complete}
 use Rattle.avro_datum.specs.Laws.Parts.{inside_complete, inside_steady, stands_as}
-use Rattle.avro_bytes.specs.Decoding.{Complete, Defect, Failed, Need, Stands, inside}
-use Rattle.avro_bytes.specs.Fault.{HasDefect, failing, shifted}
-use Rattle.avro_bytes.specs.declared.limits.TheConstants.{MOST_DEPTH}
+use Rattle.avro_bytes.specs.Decoding.{Complete, Failed, Stands, inside}
+use Rattle.spec_avro.specs.Defect.{Defect, Need}
+use Rattle.avro_bytes.specs.Fault.{HasDefect, failing}
+use Rattle.spec_avro.specs.Fault.{shifted}
+use Rattle.spec_avro.specs.declared.limits.TheConstants.{MOST_DEPTH}
 
 module _ {A : Type 0} (Spelled : A → List ℕ → Type 0) (deep units : A → ℕ) where
   -- the blocks spell the values

@@ -1,11 +1,11 @@
 -- What is spelled within the limits is decoded, whatever comes before and after it.
 use Rattle.std.proofs.Common.{◌≡◌, ℕ, zero, suc, ◌+◌, ◌-◌, List, ◌++◌, length, Option, Some, false, refl, sym, ap, subst, ◌∙◌, arith, slice_get}
-use Rattle.avro_bytes.specs.declared.fault.MalformedKind.TheVariants.{BadEnum}
-use Rattle.avro_bytes.specs.declared.meter.Meter.{Meter}
+use Rattle.spec_avro.specs.declared.malformed.MalformedKind.TheVariants.{BadEnum}
+use Rattle.spec_avro.specs.declared.meter.Meter.{Meter}
 use Rattle.avro_bytes.specs.Blob.{fixed_at, content_at}
 use Rattle.avro_bytes.specs.Boolean.{boolean_at}
-use Rattle.avro_bytes.specs.Meter.{Counts}
-use Rattle.avro_bytes.specs.Number.{int_limit, long_limit}
+use Rattle.spec_avro.specs.Meter.{Counts}
+use Rattle.spec_avro.specs.Number.{int_limit, long_limit}
 use Rattle.avro_bytes.specs.NumberDecoding.{number_at}
 use Rattle.avro_bytes.specs.Text.{text_at}
 use Rattle.avro_bytes.specs.Laws.Blobs.{blob_complete}
@@ -13,12 +13,12 @@ use Rattle.avro_bytes.specs.Laws.Booleans.{boolean_complete}
 use Rattle.avro_bytes.specs.Laws.Fixeds.{fixed_complete}
 use Rattle.avro_bytes.specs.Laws.Numbers.{number_complete}
 use Rattle.avro_bytes.specs.Laws.Texts.{text_complete}
-use Rattle.avro_types.specs.Node.{Node, NullNode, BooleanNode, IntNode, LongNode, BytesNode, TextNode, FixedNode, EnumNode, ArrayNode, MapNode, UnionNode, RecordNode}
-use Rattle.avro_types.specs.WellFormed.{is_union}
-use Rattle.avro_types.specs.Datum.{Datum, NullDatum, BooleanDatum, IntDatum, LongDatum, BytesDatum, TextDatum, FixedDatum, EnumDatum, ArrayDatum, MapDatum, UnionDatum, RecordDatum}
+use Rattle.spec_avro.specs.Node.{Node, NullNode, BooleanNode, IntNode, LongNode, BytesNode, TextNode, FixedNode, EnumNode, ArrayNode, MapNode, UnionNode, RecordNode}
+use Rattle.spec_avro.specs.WellFormed.{is_union}
+use Rattle.spec_avro.specs.Datum.{Datum, NullDatum, BooleanDatum, IntDatum, LongDatum, BytesDatum, TextDatum, FixedDatum, EnumDatum, ArrayDatum, MapDatum, UnionDatum, RecordDatum}
 use Rattle.avro_datum.specs.Decoding.{Decoder, datum_at, kind_at, node_at, plain_at}
 use Rattle.avro_bytes.specs.Position.{position_at}
-use Rattle.avro_datum.specs.Spelling.{Spells, depth_of, units_of}
+use Rattle.spec_avro.specs.Spelling.{Spells, depth_of, units_of}
 use Rattle.avro_datum.specs.Laws.Arrays.{array_complete, spell_each}
 use Rattle.avro_datum.specs.Laws.Decoders.{Deeper, IsComplete}
 use Rattle.avro_datum.specs.Laws.Kinds.{Group, array_group, group_of, kind_is_plain, leaf, leaf_no_union, map_group, none_deeper, nothing, one_deeper, record_group, union_group}
@@ -27,8 +27,9 @@ use Rattle.avro_datum.specs.Laws.Parts.{counts_nothing}
 use Rattle.avro_bytes.specs.Laws.Positions.{position_again}
 use Rattle.avro_datum.specs.Laws.Records.{record_complete}
 use Rattle.avro_datum.specs.Laws.Unions.{union_complete}
-use Rattle.avro_bytes.specs.Decoding.{Complete, Failed, Need, map_decoding}
-use Rattle.avro_bytes.specs.declared.limits.TheConstants.{MOST_DEPTH}
+use Rattle.avro_bytes.specs.Decoding.{Complete, Failed, map_decoding}
+use Rattle.spec_avro.specs.Defect.{Need}
+use Rattle.spec_avro.specs.declared.limits.TheConstants.{MOST_DEPTH}
 
 module _ (nodes : List Node) (all : List ℕ) (decoder : Decoder) (left : ℕ) (deeper : Deeper (IsComplete nodes all decoder) left) where
   at_plain : (node at : ℕ) (m : Meter) (o : Option Node) → slice_get nodes node ≡ o → plain_at decoder all (slice_get nodes node) at m ≡ plain_at decoder all o at m

@@ -1,15 +1,16 @@
 -- What the laws say of a decoder of the parts of a node.
 use Rattle.std.proofs.Common.{◌≡◌, ◌≢◌, ℕ, suc, ◌+◌, ◌-◌, ◌≤◌, List, ◌++◌, length, drop}
-use Rattle.avro_bytes.specs.declared.meter.Meter.{Meter}
-use Rattle.avro_bytes.specs.Meter.{Counts}
-use Rattle.avro_types.specs.Node.{Node}
-use Rattle.avro_types.specs.Datum.{Datum}
+use Rattle.spec_avro.specs.declared.meter.Meter.{Meter}
+use Rattle.spec_avro.specs.Meter.{Counts}
+use Rattle.spec_avro.specs.Node.{Node}
+use Rattle.spec_avro.specs.Datum.{Datum}
 use Rattle.avro_datum.specs.Decoding.{Decoder}
-use Rattle.avro_datum.specs.Fault.{FaultyDatum}
-use Rattle.avro_datum.specs.Spelling.{Spells, depth_of, units_of}
-use Rattle.avro_bytes.specs.Decoding.{Complete, Defect, Failed, Need, Stands}
+use Rattle.spec_avro.specs.FaultyDatum.{FaultyDatum}
+use Rattle.spec_avro.specs.Spelling.{Spells, depth_of, units_of}
+use Rattle.avro_bytes.specs.Decoding.{Complete, Failed, Stands}
+use Rattle.spec_avro.specs.Defect.{Defect, Need}
 use Rattle.avro_bytes.specs.Fault.{HasDefect, failing}
-use Rattle.avro_bytes.specs.declared.limits.TheConstants.{MOST_DEPTH}
+use Rattle.spec_avro.specs.declared.limits.TheConstants.{MOST_DEPTH}
 
 -- what a decoder gives is spelled, where `left` more records, arrays and maps may be opened
 abbrev pub IsSound : List Node → List ℕ → Decoder → ℕ → Type 0

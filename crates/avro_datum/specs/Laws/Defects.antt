@@ -1,11 +1,11 @@
 -- The first fault of a datum: what is reported is there.
 use Rattle.std.proofs.Common.{◌≡◌, ℕ, zero, suc, ◌-◌, List, drop, Option, true, false, refl, sym, subst, slice_get}
-use Rattle.avro_bytes.specs.declared.meter.Meter.{Meter}
-use Rattle.avro_types.specs.Node.{Node}
-use Rattle.avro_types.specs.WellFormed.{is_union}
-use Rattle.avro_types.specs.Datum.{Datum}
+use Rattle.spec_avro.specs.declared.meter.Meter.{Meter}
+use Rattle.spec_avro.specs.Node.{Node}
+use Rattle.spec_avro.specs.WellFormed.{is_union}
+use Rattle.spec_avro.specs.Datum.{Datum}
 use Rattle.avro_datum.specs.Decoding.{Decoder, datum_at, kind_at, node_at, plain_at}
-use Rattle.avro_datum.specs.Fault.{FaultyDatum, no_node}
+use Rattle.spec_avro.specs.FaultyDatum.{FaultyDatum, no_node}
 use Rattle.avro_datum.specs.Laws.Arrays.{array_defect}
 use Rattle.avro_datum.specs.Laws.Decoders.{Deeper, HasFault, IsSound}
 use Rattle.avro_datum.specs.Laws.Kinds.{Group, array_group, group_of, leaf, leaf_is_kind, leaf_is_plain, leaf_no_union, map_group, none_deeper, nothing, one_deeper, record_group, union_group}
@@ -14,9 +14,10 @@ use Rattle.avro_datum.specs.Laws.Maps.{map_defect}
 use Rattle.avro_datum.specs.Laws.RecordDefects.{record_has_defect}
 use Rattle.avro_datum.specs.Laws.Sound.{node_sound}
 use Rattle.avro_datum.specs.Laws.Unions.{union_defect}
-use Rattle.avro_bytes.specs.Decoding.{Decoding, Failed, Need}
+use Rattle.avro_bytes.specs.Decoding.{Decoding, Failed}
+use Rattle.spec_avro.specs.Defect.{Need}
 use Rattle.avro_bytes.specs.Fault.{HasDefect}
-use Rattle.avro_bytes.specs.declared.limits.TheConstants.{MOST_DEPTH}
+use Rattle.spec_avro.specs.declared.limits.TheConstants.{MOST_DEPTH}
 
 -- a union is decoded by no decoder of what is none
 union_group_none : (decoder : Decoder) (all : List ℕ) (o : Option Node) → Group o → (at : ℕ) (m : Meter) → is_union o ≡ true → plain_at decoder all o at m ≡ Failed Need

@@ -2,14 +2,15 @@
 use Rattle.std.proofs.Common.{◌≡◌, ℕ, suc, ◌+◌, ◌-◌, ◌<◌, ◌⊎◌, List, [], ◌∷◌, ◌++◌, length, drop, Option, ℤ, refl, sym, ap, subst, ◌∙◌, append_assoc, arith, inl, inr}
 use Rattle.std.proofs.lemmas.List.{append-nil, length-append}
 use Rattle.avro_bytes.specs.Walk.{Walk, first_walk}
-use Rattle.avro_bytes.specs.declared.meter.Meter.{Meter}
-use Rattle.avro_bytes.specs.Blocks.{IsHead, joined, AreBlocks, SizeIs}
+use Rattle.spec_avro.specs.declared.meter.Meter.{Meter}
+use Rattle.spec_avro.specs.Blocks.{IsHead, joined, AreBlocks, SizeIs}
 use Rattle.avro_bytes.specs.Walking.{IsMet}
-use Rattle.avro_bytes.specs.Decoding.{Stands, Defect}
-use Rattle.avro_bytes.specs.Fault.{shifted}
-use Rattle.avro_bytes.specs.Meter.{Counts, OpensItem}
+use Rattle.avro_bytes.specs.Decoding.{Stands}
+use Rattle.spec_avro.specs.Defect.{Defect}
+use Rattle.spec_avro.specs.Fault.{shifted}
+use Rattle.spec_avro.specs.Meter.{Counts, OpensItem}
 use Rattle.avro_bytes.specs.Laws.Binds.{rest_after}
-use Rattle.avro_datum.specs.ItemFault.{Begins, AfterBlocks, FaultyBlocks, SpellEach, deepest, units_all}
+use Rattle.spec_avro.specs.ItemFault.{Begins, AfterBlocks, FaultyBlocks, SpellEach, deepest, units_all}
 use Rattle.avro_datum.specs.Laws.ItemDefects.{blocks_more, counts_more, each_more, joined-more}
 use Rattle.avro_bytes.specs.Laws.BlocksAgain.{headed}
 

@@ -1,20 +1,21 @@
 -- The items of an array or a map: what is read is spelled so, and what is decided stays so.
 use Rattle.std.proofs.Common.{◌≡◌, ◌≢◌, ℕ, zero, suc, ◌+◌, ◌-◌, ◌<◌, ◌≤◌, List, [], ◌∷◌, ◌++◌, length, Option, Some, None, refl, sym, ap, subst, ◌∙◌, arith}
 use Rattle.avro_bytes.specs.Walk.{Walk}
-use Rattle.avro_bytes.specs.declared.meter.Meter.{Meter}
+use Rattle.spec_avro.specs.declared.meter.Meter.{Meter}
 use Rattle.avro_bytes.specs.BlockDecoding.{next_item}
 use Rattle.avro_bytes.specs.Walking.{Remains, Leads}
-use Rattle.avro_bytes.specs.Meter.{Counts}
+use Rattle.spec_avro.specs.Meter.{Counts}
 use Rattle.avro_bytes.specs.Laws.Binds.{complete_is, stands_within, then_complete, then_steady}
 use Rattle.avro_bytes.specs.Laws.BlockEnds.{end_sound}
 use Rattle.avro_bytes.specs.Laws.BlockSteps.{joined_stands as led_stands, step_sound}
 use Rattle.avro_bytes.specs.Laws.BlocksSame.{walk_steady}
 use Rattle.avro_bytes.specs.Laws.Walks.{end_meter, item_meter}
 use Rattle.avro_datum.specs.ItemDecoding.{Reader, items_at, items_from}
-use Rattle.avro_datum.specs.ItemFault.{SpellEach, deepest, units_all}
+use Rattle.spec_avro.specs.ItemFault.{SpellEach, deepest, units_all}
 use Rattle.avro_datum.specs.Laws.Parts.{map_steady, mapped, stands_as}
-use Rattle.avro_bytes.specs.Decoding.{Complete, Failed, Need, Stands, map_decoding}
-use Rattle.avro_bytes.specs.declared.limits.TheConstants.{MOST_DEPTH, MOST_UNITS}
+use Rattle.avro_bytes.specs.Decoding.{Complete, Failed, Stands, map_decoding}
+use Rattle.spec_avro.specs.Defect.{Need}
+use Rattle.spec_avro.specs.declared.limits.TheConstants.{MOST_DEPTH, MOST_UNITS}
 
 module _ {A : Type 0} (Spelled : A → List ℕ → Type 0) (deep units : A → ℕ) where
   -- what a reader gives is spelled so, where `left` more records, arrays and maps may be opened

@@ -1,11 +1,11 @@
 -- Items that are spelled in blocks are read one after another, from the first walk on.
 use Rattle.std.proofs.Common.{◌≡◌, ℕ, suc, ◌+◌, List, [], ◌∷◌, ◌++◌, length, Option, ℤ, refl, sym, ap, subst, append_assoc, arith}
-use Rattle.avro_bytes.specs.declared.meter.Meter.{Meter}
+use Rattle.spec_avro.specs.declared.meter.Meter.{Meter}
 use Rattle.avro_bytes.specs.BlockDecoding.{item_at, next_block}
-use Rattle.avro_bytes.specs.Meter.{Counts}
+use Rattle.spec_avro.specs.Meter.{Counts}
 use Rattle.avro_bytes.specs.Laws.BlocksAgain.{head_again, headed}
-use Rattle.avro_bytes.specs.Blocks.{IsHead}
-use Rattle.avro_datum.specs.ItemFault.{SpellEach, deepest, units_all}
+use Rattle.spec_avro.specs.Blocks.{IsHead}
+use Rattle.spec_avro.specs.ItemFault.{SpellEach, deepest, units_all}
 use Rattle.avro_bytes.specs.Decoding.{Complete, Decoding, Failed, map_decoding}
 
 -- ---- values after others

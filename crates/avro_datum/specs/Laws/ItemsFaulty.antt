@@ -2,23 +2,25 @@
 use Rattle.std.proofs.Common.{◌≡◌, ℕ, zero, suc, ◌+◌, ◌-◌, ◌<◌, List, [], ◌∷◌, ◌++◌, length, drop, Option, Some, None, ℤ, pos, refl, sym, ap, subst, ◌∙◌, append_assoc, arith, inl, inr}
 use Rattle.std.proofs.lemmas.List.{length-append}
 use Rattle.avro_bytes.specs.Walk.{Walk, first_walk}
-use Rattle.avro_bytes.specs.declared.fault.MalformedKind.TheVariants.{BadBlock}
-use Rattle.avro_bytes.specs.declared.meter.Meter.{Meter}
+use Rattle.spec_avro.specs.declared.malformed.MalformedKind.TheVariants.{BadBlock}
+use Rattle.spec_avro.specs.declared.meter.Meter.{Meter}
 use Rattle.avro_bytes.specs.BlockDecoding.{next_block, next_item}
-use Rattle.avro_bytes.specs.BlockFault.{FaultyHead}
+use Rattle.spec_avro.specs.BlockFault.{FaultyHead}
 use Rattle.avro_bytes.specs.Walking.{IsMet}
-use Rattle.avro_bytes.specs.Blocks.{joined, IsHead}
-use Rattle.avro_bytes.specs.Meter.{RefusesItem}
+use Rattle.spec_avro.specs.Blocks.{joined, IsHead}
+use Rattle.spec_avro.specs.Meter.{RefusesItem}
 use Rattle.avro_bytes.specs.Laws.Binds.{rest_after, defect_after, defect_map, defect_then}
 use Rattle.avro_bytes.specs.Laws.BlockDefects.{bad_block_told, decide_met, head_defect, within_defect}
 use Rattle.avro_datum.specs.ItemDecoding.{Reader, items_at, items_from}
-use Rattle.avro_datum.specs.ItemFault.{IsBadBlock, IsRefusedItem}
+use Rattle.spec_avro.specs.ItemFault.{IsBadBlock, IsRefusedItem}
 use Rattle.avro_datum.specs.Laws.ItemFaults.{AtFault, InBlock, Reached, begins, closed, reached_more}
 use Rattle.avro_datum.specs.Laws.Items.{ReadsSound}
 use Rattle.avro_datum.specs.Laws.ItemsAdvanced.{advance}
-use Rattle.avro_bytes.specs.Decoding.{Complete, Defect, Malformed, map_decoding}
-use Rattle.avro_bytes.specs.Fault.{HasDefect, shifted}
-use Rattle.avro_bytes.specs.declared.limits.TheConstants.{MOST_DEPTH, MOST_UNITS}
+use Rattle.avro_bytes.specs.Decoding.{Complete, map_decoding}
+use Rattle.spec_avro.specs.Defect.{Defect, Malformed}
+use Rattle.avro_bytes.specs.Fault.{HasDefect}
+use Rattle.spec_avro.specs.Fault.{shifted}
+use Rattle.spec_avro.specs.declared.limits.TheConstants.{MOST_DEPTH, MOST_UNITS}
 use Rattle.avro_bytes.specs.Laws.BlocksAgain.{met_end}
 
 module _ {A : Type 0} (Spelled : A → List ℕ → Type 0) (deep units : A → ℕ) (Faulty : List ℕ → Meter → Defect → Type 0) where

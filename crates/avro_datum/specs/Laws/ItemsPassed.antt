@@ -3,19 +3,19 @@ use Rattle.std.proofs.Common.{◌≡◌, ℕ, zero, suc, ◌+◌, ◌-◌, ◌<�
 use Rattle.std.proofs.lemmas.List.{length-append}
 use Rattle.avro_bytes.specs.Walk.{Walk}
 use Rattle.avro_bytes.specs.declared.fault.Fault.{Fault}
-use Rattle.avro_bytes.specs.declared.meter.Meter.{Meter}
+use Rattle.spec_avro.specs.declared.meter.Meter.{Meter}
 use Rattle.avro_bytes.specs.BlockDecoding.{item_at, next_block, next_item}
-use Rattle.avro_bytes.specs.Blocks.{IsHead, joined, AreBlocks, SizeIs}
+use Rattle.spec_avro.specs.Blocks.{IsHead, joined, AreBlocks, SizeIs}
 use Rattle.avro_bytes.specs.Walking.{IsMet}
 use Rattle.avro_bytes.specs.Decoding.{Complete, ◌>>=◌, map_decoding, inside}
-use Rattle.avro_bytes.specs.Meter.{Counts, OpensItem}
+use Rattle.spec_avro.specs.Meter.{Counts, OpensItem}
 use Rattle.avro_bytes.specs.Laws.Meters.{item_opened_again}
 use Rattle.avro_datum.specs.ItemDecoding.{Reader, items_at, items_from}
-use Rattle.avro_datum.specs.ItemFault.{SpellEach, deepest, units_all}
+use Rattle.spec_avro.specs.ItemFault.{SpellEach, deepest, units_all}
 use Rattle.avro_datum.specs.Laws.ItemsAgain.{head_again_at, in_two, map_after, map_none}
 use Rattle.avro_bytes.specs.Laws.BlocksAgain.{headed, met_end}
 use Rattle.avro_datum.specs.Laws.Parts.{counts_nothing}
-use Rattle.avro_bytes.specs.declared.limits.TheConstants.{MOST_DEPTH, MOST_UNITS}
+use Rattle.spec_avro.specs.declared.limits.TheConstants.{MOST_DEPTH, MOST_UNITS}
 
 module _ {A : Type 0} (Spelled : A → List ℕ → Type 0) (deep units : A → ℕ) where
   -- what is spelled is what a reader gives, where `left` more records, arrays and maps may be opened

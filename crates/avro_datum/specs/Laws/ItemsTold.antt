@@ -3,25 +3,28 @@ use Rattle.std.proofs.Common.{◌≡◌, ℕ, zero, suc, ◌+◌, ◌-◌, ◌<�
 use Rattle.std.proofs.lemmas.List.{append-nil, length-append}
 use Rattle.avro_bytes.specs.Walk.{Walk, first_walk}
 use Rattle.avro_bytes.specs.declared.fault.Fault.{Fault}
-use Rattle.avro_bytes.specs.declared.fault.MalformedKind.TheVariants.{BadBlock}
-use Rattle.avro_bytes.specs.declared.meter.Meter.{Meter}
+use Rattle.spec_avro.specs.declared.malformed.MalformedKind.TheVariants.{BadBlock}
+use Rattle.spec_avro.specs.declared.meter.Meter.{Meter}
 use Rattle.avro_bytes.specs.BlockDecoding.{item_at, next_block, next_item}
-use Rattle.avro_bytes.specs.Blocks.{IsBlocks, IsItems, joined, AreBlocks, IsHead}
+use Rattle.spec_avro.specs.Blocks.{IsBlocks, IsItems, joined, AreBlocks, IsHead}
 use Rattle.avro_bytes.specs.Walking.{IsMet, Remains}
-use Rattle.avro_bytes.specs.Meter.{Counts, closed_blocks}
-use Rattle.avro_bytes.specs.Number.{IsNumber64}
+use Rattle.spec_avro.specs.Meter.{Counts}
+use Rattle.avro_bytes.specs.Meter.{closed_blocks}
+use Rattle.spec_avro.specs.Number.{IsNumber64}
 use Rattle.avro_bytes.specs.Laws.Binds.{failing_map, failing_shifted, failing_then}
 use Rattle.avro_bytes.specs.Laws.BlockDefects.{bad_block_told, head_told}
 use Rattle.avro_bytes.specs.Laws.BlocksAgain.{end_complete, headed, met_end}
 use Rattle.avro_bytes.specs.Laws.BlockSteps.{none_left}
 use Rattle.avro_bytes.specs.Laws.Meters.{item_opened_again, item_refused_told}
 use Rattle.avro_datum.specs.ItemDecoding.{Reader, items_at, items_from}
-use Rattle.avro_datum.specs.ItemFault.{AtItem, Begins, FaultyBlocks, IsFaultyHead, IsRefusedItem, SpellEach, deepest, units_all}
+use Rattle.spec_avro.specs.ItemFault.{AtItem, Begins, FaultyBlocks, IsFaultyHead, IsRefusedItem, SpellEach, deepest, units_all}
 use Rattle.avro_datum.specs.Laws.ItemsAgain.{head_again_at, in_two}
 use Rattle.avro_datum.specs.Laws.ItemsPassed.{Passes, ReadsComplete, pass_block, pass_blocks, pass_then}
-use Rattle.avro_bytes.specs.Decoding.{Complete, Defect, Failed, Malformed, inside, map_decoding, ◌>>=◌}
-use Rattle.avro_bytes.specs.Fault.{failing, shifted}
-use Rattle.avro_bytes.specs.declared.limits.TheConstants.{MOST_DEPTH, MOST_UNITS}
+use Rattle.avro_bytes.specs.Decoding.{Complete, Failed, inside, map_decoding, ◌>>=◌}
+use Rattle.spec_avro.specs.Defect.{Defect, Malformed}
+use Rattle.avro_bytes.specs.Fault.{failing}
+use Rattle.spec_avro.specs.Fault.{shifted}
+use Rattle.spec_avro.specs.declared.limits.TheConstants.{MOST_DEPTH, MOST_UNITS}
 
 -- blocks, and the end after them
 end_of : (blocks : List (List (List ℕ))) (bytes : List ℕ) → IsBlocks blocks bytes → (whole : List ℕ) × (last : List ℕ) × (bytes ≡ whole ++ last) × AreBlocks blocks whole × IsNumber64 (pos 0) last

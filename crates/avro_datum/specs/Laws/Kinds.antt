@@ -1,8 +1,8 @@
 -- The kinds of a node in groups: those that hold no others, arrays, maps, unions and records.
 use Rattle.std.proofs.Common.{◌≡◌, ℕ, suc, List, Option, Some, None, false, refl, sym, subst, ◌∙◌, arith}
-use Rattle.avro_bytes.specs.declared.meter.Meter.{Meter}
-use Rattle.avro_types.specs.Node.{Node, Names, FieldNode, NullNode, BooleanNode, IntNode, LongNode, BytesNode, TextNode, FixedNode, EnumNode, ArrayNode, MapNode, UnionNode, RecordNode}
-use Rattle.avro_types.specs.WellFormed.{is_union}
+use Rattle.spec_avro.specs.declared.meter.Meter.{Meter}
+use Rattle.spec_avro.specs.Node.{Node, Names, FieldNode, NullNode, BooleanNode, IntNode, LongNode, BytesNode, TextNode, FixedNode, EnumNode, ArrayNode, MapNode, UnionNode, RecordNode}
+use Rattle.spec_avro.specs.WellFormed.{is_union}
 use Rattle.avro_datum.specs.Decoding.{Decoder, IsLeaf, kind_at, leaf_at, plain_at}
 use Rattle.avro_datum.specs.Laws.Decoders.{Deeper}
 

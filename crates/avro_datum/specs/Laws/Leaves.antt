@@ -1,11 +1,13 @@
 -- The kinds that hold no others: what is read is spelled so, what is spelled is read, and the first fault, both ways.
 use Rattle.std.proofs.Common.{◌≡◌, ◌≢◌, ℕ, ◌≤◌, List, ◌++◌, length, drop, Some, refl, sym, subst, slice_get, lit<}
-use Rattle.avro_bytes.specs.declared.fault.MalformedKind.TheVariants.{BadEnum}
-use Rattle.avro_bytes.specs.declared.meter.Meter.{Meter}
-use Rattle.avro_bytes.specs.Blob.{FaultyFixed, fixed_at, content_at}
-use Rattle.avro_bytes.specs.Boolean.{FaultyBoolean, boolean_at}
-use Rattle.avro_bytes.specs.Meter.{Counts}
-use Rattle.avro_bytes.specs.Number.{int_limit, long_limit}
+use Rattle.spec_avro.specs.declared.malformed.MalformedKind.TheVariants.{BadEnum}
+use Rattle.spec_avro.specs.declared.meter.Meter.{Meter}
+use Rattle.spec_avro.specs.Blob.{FaultyFixed}
+use Rattle.avro_bytes.specs.Blob.{fixed_at, content_at}
+use Rattle.spec_avro.specs.Boolean.{FaultyBoolean}
+use Rattle.avro_bytes.specs.Boolean.{boolean_at}
+use Rattle.spec_avro.specs.Meter.{Counts}
+use Rattle.spec_avro.specs.Number.{int_limit, long_limit}
 use Rattle.avro_bytes.specs.NumberDecoding.{number_at}
 use Rattle.avro_bytes.specs.Text.{text_at}
 use Rattle.avro_bytes.specs.Laws.Binds.{defect_as, defect_map, complete_is}
@@ -16,16 +18,19 @@ use Rattle.avro_bytes.specs.Laws.Fixeds.{fixed_defect, fixed_sound, fixed_steady
 use Rattle.avro_bytes.specs.Laws.Numbers.{number_sound, number_steady}
 use Rattle.avro_bytes.specs.Laws.Texts.{text_sound, text_steady}
 use Rattle.avro_bytes.specs.Laws.TextDefects.{text_defect}
-use Rattle.avro_types.specs.Node.{Node, NullNode, BooleanNode, IntNode, LongNode, BytesNode, TextNode, FixedNode, EnumNode, ArrayNode, MapNode, UnionNode, RecordNode}
-use Rattle.avro_types.specs.Datum.{Datum, NullDatum, BooleanDatum, IntDatum, LongDatum, BytesDatum, TextDatum, FixedDatum, EnumDatum}
+use Rattle.spec_avro.specs.Node.{Node, NullNode, BooleanNode, IntNode, LongNode, BytesNode, TextNode, FixedNode, EnumNode, ArrayNode, MapNode, UnionNode, RecordNode}
+use Rattle.spec_avro.specs.Datum.{Datum, NullDatum, BooleanDatum, IntDatum, LongDatum, BytesDatum, TextDatum, FixedDatum, EnumDatum}
 use Rattle.avro_datum.specs.Decoding.{IsLeaf, leaf_at}
-use Rattle.avro_datum.specs.Fault.{FaultyDatum, faulty, faulty_boolean, faulty_int, faulty_long, faulty_bytes, faulty_text, faulty_fixed, faulty_enum}
-use Rattle.avro_bytes.specs.Position.{FaultyPosition, position_at}
-use Rattle.avro_datum.specs.Spelling.{Spells, depth_of, units_of}
+use Rattle.spec_avro.specs.FaultyDatum.{FaultyDatum, faulty, faulty_boolean, faulty_int, faulty_long, faulty_bytes, faulty_text, faulty_fixed, faulty_enum}
+use Rattle.spec_avro.specs.Position.{FaultyPosition}
+use Rattle.avro_bytes.specs.Position.{position_at}
+use Rattle.spec_avro.specs.Spelling.{Spells, depth_of, units_of}
 use Rattle.avro_datum.specs.Laws.Parts.{counts_none, map_steady, mapped, nowhere, stands_as}
 use Rattle.avro_bytes.specs.Laws.Positions.{position_defect, position_sound, position_steady}
-use Rattle.avro_bytes.specs.Decoding.{Complete, Decoding, Defect, Failed, Need, Stands, map_decoding}
-use Rattle.avro_bytes.specs.Fault.{FaultyContent, FaultyNumber, FaultyText, HasDefect}
+use Rattle.avro_bytes.specs.Decoding.{Complete, Decoding, Failed, Stands, map_decoding}
+use Rattle.spec_avro.specs.Defect.{Defect, Need}
+use Rattle.spec_avro.specs.Fault.{FaultyContent, FaultyNumber, FaultyText}
+use Rattle.avro_bytes.specs.Fault.{HasDefect}
 use Rattle.avro_bytes.specs.Laws.BlobDefects.{content_defect}
 
 -- a value that is read, as the datum that it is

@@ -1,28 +1,31 @@
 -- Maps: what is read is spelled so, what is spelled is read, and the first fault, both ways.
 use Rattle.std.proofs.Common.{◌≡◌, ◌≢◌, ℕ, ◌+◌, ◌-◌, ◌≤◌, ◌⊎◌, max, List, [], ◌∷◌, ◌++◌, length, drop, Some, refl, sym, ap, subst, ◌∙◌, append_assoc, arith, inl, inr, slice_get}
 use Rattle.std.proofs.lemmas.List.{length-append}
-use Rattle.avro_bytes.specs.declared.meter.Meter.{Meter}
-use Rattle.avro_bytes.specs.Meter.{Counts, OpensBlocks}
-use Rattle.avro_bytes.specs.Text.{IsText, text_at}
+use Rattle.spec_avro.specs.declared.meter.Meter.{Meter}
+use Rattle.spec_avro.specs.Meter.{Counts, OpensBlocks}
+use Rattle.spec_avro.specs.Text.{IsText}
+use Rattle.avro_bytes.specs.Text.{text_at}
 use Rattle.avro_bytes.specs.Laws.Binds.{rest_after, defect_as, defect_after, defect_map, defect_then, failing_map, stands_within, then_complete, then_steady}
 use Rattle.avro_bytes.specs.Laws.TextDefects.{text_defect}
 use Rattle.avro_bytes.specs.Laws.Texts.{text_complete, text_sound, text_steady}
-use Rattle.avro_types.specs.Node.{Node, MapNode}
-use Rattle.avro_types.specs.Datum.{Datum, Pairs, MapDatum, no_pairs, pair}
+use Rattle.spec_avro.specs.Node.{Node, MapNode}
+use Rattle.spec_avro.specs.Datum.{Datum, Pairs, MapDatum, no_pairs, pair}
 use Rattle.avro_datum.specs.Decoding.{Decoder, map_of, pair_at, pairs_from}
-use Rattle.avro_datum.specs.Fault.{FaultyDatum, SpellsPair, faulty_key, faulty_map, faulty_value, pair_depth, pair_units, refused_map, faulty}
+use Rattle.spec_avro.specs.FaultyDatum.{FaultyDatum, SpellsPair, faulty_key, faulty_map, faulty_value, pair_depth, pair_units, refused_map, faulty}
 use Rattle.avro_datum.specs.ItemDecoding.{blocks_at}
-use Rattle.avro_datum.specs.ItemFault.{Begins, FaultyBlocks, SpellEach, deepest, units_all}
-use Rattle.avro_datum.specs.Spelling.{Spells, SpellsPairs, depth_of, depth_of_pairs, units_of, units_of_pairs}
+use Rattle.spec_avro.specs.ItemFault.{Begins, FaultyBlocks, SpellEach, deepest, units_all}
+use Rattle.spec_avro.specs.Spelling.{Spells, SpellsPairs, depth_of, depth_of_pairs, units_of, units_of_pairs}
 use Rattle.avro_datum.specs.Laws.Blocks.{SpellBlocks, around_told, blocks_complete, blocks_have_defect, blocks_sound, blocks_steady, within_told}
 use Rattle.avro_datum.specs.Laws.Decoders.{Deeper, HasFault, IsComplete, IsSound, IsSteady}
 use Rattle.avro_datum.specs.Laws.ItemFaults.{AtFault}
 use Rattle.avro_datum.specs.Laws.Items.{ReadsSound}
 use Rattle.avro_datum.specs.Laws.ItemsPassed.{ReadsComplete}
 use Rattle.avro_datum.specs.Laws.Parts.{joined_stands, map_steady, mapped, stands_as}
-use Rattle.avro_bytes.specs.Decoding.{Complete, Decoding, Defect, Failed, Need, Stands, map_decoding, ◌>>=◌}
-use Rattle.avro_bytes.specs.Fault.{FaultyText, HasDefect, failing, shifted}
-use Rattle.avro_bytes.specs.declared.limits.TheConstants.{MOST_DEPTH}
+use Rattle.avro_bytes.specs.Decoding.{Complete, Decoding, Failed, Stands, map_decoding, ◌>>=◌}
+use Rattle.spec_avro.specs.Defect.{Defect, Need}
+use Rattle.spec_avro.specs.Fault.{FaultyText, shifted}
+use Rattle.avro_bytes.specs.Fault.{HasDefect, failing}
+use Rattle.spec_avro.specs.declared.limits.TheConstants.{MOST_DEPTH}
 
 -- ---- one pair
 

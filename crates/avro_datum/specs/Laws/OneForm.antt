@@ -3,7 +3,7 @@ use Rattle.std.proofs.Common.{◌≡◌, ℕ, ◌+◌, List, [], ◌∷◌, ◌+
 use Rattle.std.proofs.lemmas.List.{drop_at}
 use Rattle.avro_bytes.specs.Walk.{Walk, first_walk}
 use Rattle.avro_bytes.specs.Walking.{Remains, Comes}
-use Rattle.avro_bytes.specs.Number.{int_limit, long_limit}
+use Rattle.spec_avro.specs.Number.{int_limit, long_limit}
 use Rattle.avro_bytes.specs.Laws.BlockEnds.{remains_first}
 use Rattle.avro_bytes.specs.Laws.Blobs.{blob_one_form}
 use Rattle.avro_bytes.specs.Laws.BlocksAgain.{step_complete}
@@ -12,10 +12,10 @@ use Rattle.avro_bytes.specs.Laws.Booleans.{boolean_one_form}
 use Rattle.avro_bytes.specs.Laws.Fixeds.{fixed_one_form}
 use Rattle.avro_bytes.specs.Laws.Numbers.{number_one_form}
 use Rattle.avro_bytes.specs.Laws.Texts.{text_one_form}
-use Rattle.avro_types.specs.Node.{Names, Node, FieldNode, FixedNode, EnumNode, ArrayNode, MapNode, UnionNode, RecordNode}
-use Rattle.avro_types.specs.Datum.{Datum, Data, Pairs, NullDatum, BooleanDatum, IntDatum, LongDatum, BytesDatum, TextDatum, FixedDatum, EnumDatum, ArrayDatum, MapDatum, UnionDatum, RecordDatum, no_more, more, no_pairs, pair}
-use Rattle.avro_bytes.specs.Position.{SpellsPosition}
-use Rattle.avro_datum.specs.Spelling.{Spells, SpellsFields, SpellsItems, SpellsPairs}
+use Rattle.spec_avro.specs.Node.{Names, Node, FieldNode, FixedNode, EnumNode, ArrayNode, MapNode, UnionNode, RecordNode}
+use Rattle.spec_avro.specs.Datum.{Datum, Data, Pairs, NullDatum, BooleanDatum, IntDatum, LongDatum, BytesDatum, TextDatum, FixedDatum, EnumDatum, ArrayDatum, MapDatum, UnionDatum, RecordDatum, no_more, more, no_pairs, pair}
+use Rattle.spec_avro.specs.Position.{SpellsPosition}
+use Rattle.spec_avro.specs.Spelling.{Spells, SpellsFields, SpellsItems, SpellsPairs}
 use Rattle.avro_bytes.specs.Laws.Positions.{position_one_form}
 
 -- ---- one node is of one kind

@@ -1,13 +1,14 @@
 -- Steps that the laws share: mapped values, bytes after bytes, and meters.
 use Rattle.std.proofs.Common.{◌≡◌, ◌≢◌, ℕ, List, [], ◌++◌, drop, Some, Result, Ok, Err, refl, sym, ap, ◌∙◌, append_assoc, arith}
 use Rattle.std.proofs.lemmas.List.{length-append}
-use Rattle.avro_bytes.specs.declared.meter.Meter.{Meter}
+use Rattle.spec_avro.specs.declared.meter.Meter.{Meter}
 use Rattle.avro_bytes.specs.declared.fault.Fault.{Fault}
 use Rattle.avro_bytes.specs.declared.fault.Fault.TheVariants as fault
-use Rattle.avro_bytes.specs.Meter.{Counts}
+use Rattle.spec_avro.specs.Meter.{Counts}
 use Rattle.avro_bytes.specs.Laws.Binds.{rest_after, complete_is}
 use Rattle.avro_bytes.specs.Laws.Meters.{same_meter}
-use Rattle.avro_bytes.specs.Decoding.{Complete, Decoding, Failed, Malformed, Need, Stands, inside, map_decoding}
+use Rattle.avro_bytes.specs.Decoding.{Complete, Decoding, Failed, Stands, inside, map_decoding}
+use Rattle.spec_avro.specs.Defect.{Malformed, Need}
 
 pub counts_none : (m after : Meter) → m ≡ after → Counts 0 0 m after
 counts_none m after e = record { deep = omega arith; many = omega arith; same_depth = sym (ap (λ (x : Meter). x.depth) e); counted = sym (ap (λ (x : Meter). x.units) e) ∙ omega arith }

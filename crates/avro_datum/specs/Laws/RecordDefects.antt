@@ -1,19 +1,20 @@
 -- The first fault of a record, both ways: what is reported is there, and what is there is reported.
 use Rattle.std.proofs.Common.{◌≡◌, ℕ, ◌+◌, ◌-◌, List, [], ◌∷◌, ◌++◌, length, drop, Some, Result, refl, sym, ap, subst, ◌∙◌, append_assoc, arith, slice_get, suc}
 use Rattle.std.proofs.lemmas.List.{length-append}
-use Rattle.avro_bytes.specs.declared.meter.Meter.{Meter}
+use Rattle.spec_avro.specs.declared.meter.Meter.{Meter}
 use Rattle.avro_bytes.specs.declared.fault.Fault.{Fault}
-use Rattle.avro_bytes.specs.Decoding.{Decoding, Complete, ◌>>=◌, inside, Defect}
+use Rattle.avro_bytes.specs.Decoding.{Decoding, Complete, ◌>>=◌, inside}
+use Rattle.spec_avro.specs.Defect.{Defect}
 use Rattle.avro_bytes.specs.Fault.{HasDefect, failing}
-use Rattle.avro_bytes.specs.Meter.{OpensRecord}
+use Rattle.spec_avro.specs.Meter.{OpensRecord}
 use Rattle.avro_bytes.specs.Laws.Binds.{rest_after, defect_as, defect_after, defect_then, failing_shifted, failing_then}
 use Rattle.avro_bytes.specs.Laws.Meters.{opened_again, record_defect}
-use Rattle.avro_types.specs.Node.{Node, Names, FieldNode, RecordNode}
-use Rattle.avro_types.specs.Datum.{Datum, Data, more}
+use Rattle.spec_avro.specs.Node.{Node, Names, FieldNode, RecordNode}
+use Rattle.spec_avro.specs.Datum.{Datum, Data, more}
 use Rattle.avro_datum.specs.Decoding.{Decoder, closed_record, fields_at, record_at}
-use Rattle.avro_datum.specs.Fault.{FaultyDatum, faulty as is_faulty, faulty_record, refused_record, FaultyFields, here as first_faulty, later as later_faulty}
+use Rattle.spec_avro.specs.FaultyDatum.{FaultyDatum, faulty as is_faulty, faulty_record, refused_record, FaultyFields, here as first_faulty, later as later_faulty}
 use Rattle.avro_datum.specs.Laws.Decoders.{Deeper, HasFault, IsComplete, IsSound, TellsFault}
-use Rattle.avro_bytes.specs.declared.limits.TheConstants.{MOST_DEPTH}
+use Rattle.spec_avro.specs.declared.limits.TheConstants.{MOST_DEPTH}
 
 -- ---- what is reported is there
 

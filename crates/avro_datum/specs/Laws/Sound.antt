@@ -1,12 +1,12 @@
 -- What is decoded is spelled so, and stays within the limits.
 use Rattle.std.proofs.Common.{◌≡◌, ℕ, zero, suc, ◌-◌, List, Option, Some, false, refl, sym, ◌∙◌, slice_get}
-use Rattle.avro_bytes.specs.declared.meter.Meter.{Meter}
-use Rattle.avro_bytes.specs.Meter.{Counts}
-use Rattle.avro_types.specs.Node.{Node}
-use Rattle.avro_types.specs.WellFormed.{is_union}
-use Rattle.avro_types.specs.Datum.{Datum}
+use Rattle.spec_avro.specs.declared.meter.Meter.{Meter}
+use Rattle.spec_avro.specs.Meter.{Counts}
+use Rattle.spec_avro.specs.Node.{Node}
+use Rattle.spec_avro.specs.WellFormed.{is_union}
+use Rattle.spec_avro.specs.Datum.{Datum}
 use Rattle.avro_datum.specs.Decoding.{Decoder, datum_at, kind_at, node_at, plain_at}
-use Rattle.avro_datum.specs.Spelling.{Spells, depth_of, units_of}
+use Rattle.spec_avro.specs.Spelling.{Spells, depth_of, units_of}
 use Rattle.avro_datum.specs.Laws.Arrays.{array_sound}
 use Rattle.avro_datum.specs.Laws.Decoders.{Deeper, IsSound}
 use Rattle.avro_datum.specs.Laws.Kinds.{Group, array_group, group_of, kind_is_plain, leaf, leaf_is_plain, leaf_no_union, map_group, none_deeper, nothing, one_deeper, record_group, union_group}
@@ -14,8 +14,9 @@ use Rattle.avro_datum.specs.Laws.Leaves.{leaf_sound}
 use Rattle.avro_datum.specs.Laws.Maps.{map_sound}
 use Rattle.avro_datum.specs.Laws.Records.{record_sound}
 use Rattle.avro_datum.specs.Laws.Unions.{union_sound}
-use Rattle.avro_bytes.specs.Decoding.{Complete, Failed, Need, Stands}
-use Rattle.avro_bytes.specs.declared.limits.TheConstants.{MOST_DEPTH}
+use Rattle.avro_bytes.specs.Decoding.{Complete, Failed, Stands}
+use Rattle.spec_avro.specs.Defect.{Need}
+use Rattle.spec_avro.specs.declared.limits.TheConstants.{MOST_DEPTH}
 
 module _ (nodes : List Node) (all : List ℕ) (decoder : Decoder) (left : ℕ) (deeper : Deeper (IsSound nodes all decoder) left) where
   group_sound : (node : ℕ) (o : Option Node) → Group o → (at : ℕ) (m : Meter) (d : Datum) (to : ℕ) (after : Meter) → left ≡ MOST_DEPTH - m.depth → slice_get nodes node ≡ o → plain_at decoder all o at m ≡ Complete d to after → Stands (Spells nodes node d) all at to × Counts (depth_of d) (units_of d) m after

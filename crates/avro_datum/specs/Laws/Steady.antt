@@ -1,8 +1,8 @@
 -- What is decided stays so when more bytes come.
 use Rattle.std.proofs.Common.{◌≡◌, ◌≢◌, ℕ, zero, suc, ◌-◌, ◌≤◌, List, ◌++◌, length, Option, Some, refl, sym, ◌∙◌, slice_get}
-use Rattle.avro_bytes.specs.declared.meter.Meter.{Meter}
-use Rattle.avro_types.specs.Node.{Node}
-use Rattle.avro_types.specs.Datum.{Datum}
+use Rattle.spec_avro.specs.declared.meter.Meter.{Meter}
+use Rattle.spec_avro.specs.Node.{Node}
+use Rattle.spec_avro.specs.Datum.{Datum}
 use Rattle.avro_datum.specs.Decoding.{Decoder, datum_at, kind_at, leaf_at, node_at, plain_at}
 use Rattle.avro_datum.specs.Laws.Arrays.{array_steady}
 use Rattle.avro_datum.specs.Laws.Decoders.{Deeper, IsSound, IsSteady}
@@ -12,8 +12,9 @@ use Rattle.avro_datum.specs.Laws.Maps.{map_is_steady}
 use Rattle.avro_datum.specs.Laws.Records.{record_steady}
 use Rattle.avro_datum.specs.Laws.Sound.{node_sound}
 use Rattle.avro_datum.specs.Laws.Unions.{union_steady}
-use Rattle.avro_bytes.specs.Decoding.{Decoding, Failed, Need}
-use Rattle.avro_bytes.specs.declared.limits.TheConstants.{MOST_DEPTH}
+use Rattle.avro_bytes.specs.Decoding.{Decoding, Failed}
+use Rattle.spec_avro.specs.Defect.{Need}
+use Rattle.spec_avro.specs.declared.limits.TheConstants.{MOST_DEPTH}
 
 -- what is a leaf's
 as_leaf : (x y further decoding : Decoding Datum) → decoding ≡ x → further ≡ y → (x ≢ Failed Need → y ≡ x) → decoding ≢ Failed Need → further ≡ decoding

@@ -1,14 +1,15 @@
 -- The first fault of a datum: what is there is reported.
 use Rattle.std.proofs.Common.{◌≡◌, ℕ, zero, suc, ◌+◌, ◌-◌, ◌<◌, List, ◌++◌, length, Option, Some, None, false, refl, sym, ap, subst, ◌∙◌, append_assoc, arith, slice_get}
 use Rattle.std.proofs.lemmas.List.{length-append}
-use Rattle.avro_bytes.specs.declared.fault.MalformedKind.TheVariants.{BadEnum}
-use Rattle.avro_bytes.specs.declared.meter.Meter.{Meter}
+use Rattle.spec_avro.specs.declared.malformed.MalformedKind.TheVariants.{BadEnum}
+use Rattle.spec_avro.specs.declared.meter.Meter.{Meter}
 use Rattle.avro_bytes.specs.Blob.{fixed_at, content_at}
 use Rattle.avro_bytes.specs.Boolean.{boolean_at}
 use Rattle.avro_bytes.specs.Walk.{first_walk}
-use Rattle.avro_bytes.specs.Number.{int_limit, long_limit}
+use Rattle.spec_avro.specs.Number.{int_limit, long_limit}
 use Rattle.avro_bytes.specs.NumberDecoding.{number_at}
-use Rattle.avro_bytes.specs.Text.{IsText, text_at}
+use Rattle.spec_avro.specs.Text.{IsText}
+use Rattle.avro_bytes.specs.Text.{text_at}
 use Rattle.avro_bytes.specs.Laws.Binds.{failing_map, failing_shifted, failing_then}
 use Rattle.avro_bytes.specs.Laws.Booleans.{boolean_told}
 use Rattle.avro_bytes.specs.Laws.Defects.{number_told}
@@ -16,11 +17,11 @@ use Rattle.avro_bytes.specs.Laws.Fixeds.{fixed_told}
 use Rattle.avro_bytes.specs.Laws.Meters.{blocks_refused_told, refused_told}
 use Rattle.avro_bytes.specs.Laws.TextDefects.{text_told}
 use Rattle.avro_bytes.specs.Laws.Texts.{text_complete}
-use Rattle.avro_types.specs.Node.{Node, FixedNode, EnumNode, ArrayNode, MapNode, UnionNode, RecordNode}
-use Rattle.avro_types.specs.WellFormed.{is_union}
-use Rattle.avro_types.specs.Datum.{Datum, BooleanDatum, IntDatum, LongDatum, BytesDatum, TextDatum, FixedDatum, EnumDatum}
+use Rattle.spec_avro.specs.Node.{Node, FixedNode, EnumNode, ArrayNode, MapNode, UnionNode, RecordNode}
+use Rattle.spec_avro.specs.WellFormed.{is_union}
+use Rattle.spec_avro.specs.Datum.{Datum, BooleanDatum, IntDatum, LongDatum, BytesDatum, TextDatum, FixedDatum, EnumDatum}
 use Rattle.avro_datum.specs.Decoding.{Decoder, array_of, closed_record, datum_at, fields_at, kind_at, map_of, node_at, pair_at, plain_at}
-use Rattle.avro_datum.specs.Fault.{FaultyDatum, FaultyKind, faulty, faulty_boolean, faulty_int, faulty_long, faulty_bytes, faulty_text, faulty_fixed, faulty_enum, faulty_branch, faulty_member, refused_array, refused_map, faulty_array, faulty_item, faulty_map, faulty_key, faulty_value, refused_record, faulty_record, no_node, no_member}
+use Rattle.spec_avro.specs.FaultyDatum.{FaultyDatum, FaultyKind, faulty, faulty_boolean, faulty_int, faulty_long, faulty_bytes, faulty_text, faulty_fixed, faulty_enum, faulty_branch, faulty_member, refused_array, refused_map, faulty_array, faulty_item, faulty_map, faulty_key, faulty_value, refused_record, faulty_record, no_node, no_member}
 use Rattle.avro_datum.specs.ItemDecoding.{items_at, steps_left}
 use Rattle.avro_bytes.specs.Position.{position_at}
 use Rattle.avro_datum.specs.Laws.Arrays.{array_told, item_told}
@@ -32,9 +33,11 @@ use Rattle.avro_datum.specs.Laws.Maps.{map_told, pair_told}
 use Rattle.avro_bytes.specs.Laws.Positions.{position_told}
 use Rattle.avro_datum.specs.Laws.RecordDefects.{record_told}
 use Rattle.avro_datum.specs.Laws.Unions.{branch_told, member_told, no_member_told}
-use Rattle.avro_bytes.specs.Decoding.{Complete, Decoding, Defect, Failed, Need, map_decoding, ◌>>=◌}
-use Rattle.avro_bytes.specs.Fault.{FaultyText, failing, shifted}
-use Rattle.avro_bytes.specs.declared.limits.TheConstants.{MOST_DEPTH}
+use Rattle.avro_bytes.specs.Decoding.{Complete, Decoding, Failed, map_decoding, ◌>>=◌}
+use Rattle.spec_avro.specs.Defect.{Defect, Need}
+use Rattle.spec_avro.specs.Fault.{FaultyText, shifted}
+use Rattle.avro_bytes.specs.Fault.{failing}
+use Rattle.spec_avro.specs.declared.limits.TheConstants.{MOST_DEPTH}
 use Rattle.avro_bytes.specs.Laws.BlobDefects.{content_told}
 
 some_kind : {kind : Node} {members : List ℕ} → Some kind ≡ Some (UnionNode members) → UnionNode members ≡ kind

@@ -2,23 +2,26 @@
 use Rattle.std.proofs.Common.{◌≡◌, ◌≢◌, ℕ, ◌+◌, ◌-◌, ◌≤◌, List, ◌++◌, length, drop, get_or, Option, Some, None, Bool, true, false, refl, sym, ap, subst, ◌∙◌, append_assoc, arith, slice_get}
 use Rattle.std.proofs.lemmas.List.{length-append}
 use Rattle.std.proofs.lemmas.Option.{slice_get-get_or}
-use Rattle.avro_bytes.specs.declared.fault.MalformedKind.TheVariants.{BadBranch}
-use Rattle.avro_bytes.specs.declared.meter.Meter.{Meter}
-use Rattle.avro_bytes.specs.Meter.{Counts}
+use Rattle.spec_avro.specs.declared.malformed.MalformedKind.TheVariants.{BadBranch}
+use Rattle.spec_avro.specs.declared.meter.Meter.{Meter}
+use Rattle.spec_avro.specs.Meter.{Counts}
 use Rattle.avro_bytes.specs.Laws.Binds.{rest_after, defect_as, defect_after, defect_map, defect_then, failing_map, failing_shifted, failing_then, stands_within, then_complete, then_steady}
-use Rattle.avro_types.specs.Node.{Node, UnionNode}
-use Rattle.avro_types.specs.WellFormed.{is_union}
-use Rattle.avro_types.specs.Datum.{Datum, UnionDatum}
+use Rattle.spec_avro.specs.Node.{Node, UnionNode}
+use Rattle.spec_avro.specs.WellFormed.{is_union}
+use Rattle.spec_avro.specs.Datum.{Datum, UnionDatum}
 use Rattle.avro_datum.specs.Decoding.{Decoder, member_at, union_at}
-use Rattle.avro_datum.specs.Fault.{FaultyDatum, faulty as is_faulty, faulty_branch, faulty_member, no_member}
-use Rattle.avro_bytes.specs.Position.{FaultyPosition, SpellsPosition, position_at}
-use Rattle.avro_datum.specs.Spelling.{Spells, depth_of, units_of}
+use Rattle.spec_avro.specs.FaultyDatum.{FaultyDatum, faulty as is_faulty, faulty_branch, faulty_member, no_member}
+use Rattle.spec_avro.specs.Position.{FaultyPosition, SpellsPosition}
+use Rattle.avro_bytes.specs.Position.{position_at}
+use Rattle.spec_avro.specs.Spelling.{Spells, depth_of, units_of}
 use Rattle.avro_datum.specs.Laws.Decoders.{IsSound, IsSteady}
 use Rattle.avro_datum.specs.Laws.Parts.{map_steady, mapped}
 use Rattle.avro_bytes.specs.Laws.Positions.{position_again, position_defect, position_sound, position_steady, position_told}
-use Rattle.avro_bytes.specs.Decoding.{Complete, Decoding, Defect, Failed, Need, Stands, map_decoding, ◌>>=◌}
-use Rattle.avro_bytes.specs.Fault.{HasDefect, failing, shifted}
-use Rattle.avro_bytes.specs.declared.limits.TheConstants.{MOST_DEPTH}
+use Rattle.avro_bytes.specs.Decoding.{Complete, Decoding, Failed, Stands, map_decoding, ◌>>=◌}
+use Rattle.spec_avro.specs.Defect.{Defect, Need}
+use Rattle.avro_bytes.specs.Fault.{HasDefect, failing}
+use Rattle.spec_avro.specs.Fault.{shifted}
+use Rattle.spec_avro.specs.declared.limits.TheConstants.{MOST_DEPTH}
 
 member_is : (decoder : Decoder) (o : Option ℕ) (at : ℕ) (m : Meter) (d : Datum) (to : ℕ) (after : Meter) → member_at decoder o at m ≡ Complete d to after → (member : ℕ) × (o ≡ Some member) × (decoder member at m ≡ Complete d to after)
 member_is decoder (Some member) at m d to after e = (member, refl, e)

@@ -3,7 +3,8 @@ use Rattle.std.proofs.Common.{◌≡◌, ap, ◌∙◌, refl, String, Global, st
 use Rattle.std.specs.Global.{Vec}
 use mathlib.Core.Former.{Count}
 use Rattle.avro_types.specs.declared.datum.Datum as rust
-use Rattle.avro_types.specs.Datum.{ArrayDatum, MapDatum, RecordDatum, more, pair, datum_of, data_of, pairs_of, row_data, row_pairs}
+use Rattle.spec_avro.specs.Datum.{ArrayDatum, MapDatum, RecordDatum, more, pair}
+use Rattle.avro_types.specs.Datum.{datum_of, data_of, pairs_of, row_data, row_pairs}
 
 abbrev row_of : rust.Datum → (n : Count) × rust.Row_of-Datum n
 row_of (rust.Record' _ row) = (_, row)

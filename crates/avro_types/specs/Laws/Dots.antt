@@ -8,7 +8,7 @@ use Rattle.std.proofs.lemmas.List.{get_or-append-add, take-append-drop}
 use Rattle.std.proofs.lemmas.List.Sums.{suffix_len_is}
 use Rattle.std.proofs.lemmas.Str.{len_utf8_ascii}
 use Rattle.std.proofs.lemmas.Str.Pattern.{NoCharPasses-char}
-use Rattle.avro_types.specs.FullNames.{has_dot, inside, is_dot, namespace_of, unqualified}
+use Rattle.spec_avro.specs.FullNames.{has_dot, inside, is_dot, namespace_of, unqualified}
 use Rattle.avro_types.specs.Laws.Booleans.{neither, or_true}
 
 -- ---- texts without dots

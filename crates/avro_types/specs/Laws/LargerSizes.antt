@@ -1,9 +1,9 @@
 -- Sizes that are within bounds are within each larger ones.
 use Rattle.std.proofs.Common.{◌≤◌, ℕ, List, [], ◌∷◌, Option, Some, None, IfSome, arith}
 use Rattle.std.specs.List.{AllByRecursion}
-use Rattle.avro_types.specs.Datum.{Datum, Data, Pairs, BytesDatum, TextDatum, ArrayDatum, MapDatum, UnionDatum, RecordDatum, no_more, more, no_pairs, pair}
-use Rattle.avro_types.specs.Node.{Node, FieldNode}
-use Rattle.avro_types.specs.Sizes.{HasSizesWithin, HaveSizesWithin, HavePairsWithin, DefaultsHaveSizesWithin}
+use Rattle.spec_avro.specs.Datum.{Datum, Data, Pairs, BytesDatum, TextDatum, ArrayDatum, MapDatum, UnionDatum, RecordDatum, no_more, more, no_pairs, pair}
+use Rattle.spec_avro.specs.Node.{Node, FieldNode}
+use Rattle.spec_avro.specs.Sizes.{HasSizesWithin, HaveSizesWithin, HavePairsWithin, DefaultsHaveSizesWithin}
 
 module _ (text items longer further : ℕ) (le : text ≤ longer) (few : items ≤ further) where
   mutual

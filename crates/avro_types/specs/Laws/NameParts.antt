@@ -4,7 +4,7 @@ use Rattle.std.specs.List.{list_all, onto_first, slice_split}
 use Rattle.std.proofs.lemmas.Bool.{eqb-true}
 use Rattle.std.proofs.lemmas.List.Folds.{list_all-append}
 use Rattle.std.proofs.lemmas.List.Splits.{length-slice_split}
-use Rattle.avro_types.specs.FullNames.{AreParts, has_dot, inside, is_dot, is_full_name, is_letter, is_letter_or_digit, is_name, is_namespace}
+use Rattle.spec_avro.specs.FullNames.{AreParts, has_dot, inside, is_dot, is_full_name, is_letter, is_letter_or_digit, is_name, is_namespace}
 use Rattle.avro_types.specs.Laws.Booleans.{and_true, both, neither}
 
 -- ---- a name has no dot

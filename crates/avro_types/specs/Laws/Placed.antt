@@ -4,7 +4,7 @@ use Rattle.std.specs.List.{position_from}
 use Rattle.std.specs.Str.{bytes_eq}
 use Rattle.std.proofs.lemmas.Option.{slice_get_within}
 use Rattle.std.proofs.lemmas.Slice.Eq.{bytes_eq-Decides}
-use Rattle.avro_types.specs.Symbols.{is_used, place_of}
+use Rattle.spec_avro.specs.Symbols.{is_used, place_of}
 use Rattle.avro_types.specs.Laws.Booleans.{none_some, some_inside}
 
 -- ---- the place of one more

@@ -1,8 +1,8 @@
 //! A caller of `machine`.
 
 ghost use Rattle.std.specs.Prelude.{IfOk, IfSome};
-ghost use Rattle.avro_bytes.specs.Outcome.{Done};
-ghost use Rattle.resolver.specs.Outcome.{IsOutcome};
+ghost use Rattle.spec_avro.specs.Outcome.{Done};
+ghost use Rattle.spec_avro.specs.PayloadOutcome.{IsOutcome};
 
 use avro_schema::Schema;
 use machine::{Outcome, PairError, transcode};

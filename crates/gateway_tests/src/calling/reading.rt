@@ -1,7 +1,7 @@
 //! A caller of `resolver`.
 
 ghost use Rattle.std.specs.Prelude.{IfOk, IsTrue, ◌↔◌};
-ghost use Rattle.resolver.specs.Safety.{IsSafe};
+ghost use Rattle.spec_avro.specs.Safety.{IsSafe};
 
 use avro_schema::Schema;
 use resolver::can_read;

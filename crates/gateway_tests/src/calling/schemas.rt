@@ -2,7 +2,7 @@
 
 ghost use Rattle.std.specs.Prelude.{◌≡◌, ◌≢◌, Err, IfErr, IfOk, List, Ok, length};
 ghost use Rattle.avro_schema.specs.Schema.{schema_of};
-ghost use Rattle.avro_types.specs.Node.{Node};
+ghost use Rattle.spec_avro.specs.Node.{Node};
 
 use avro_schema::{Schema, SchemaError};
 use std::alloc::Global;

@@ -2,7 +2,7 @@
 
 ghost use Rattle.std.specs.Prelude.{◌≡◌, ◌≤◌, IfSome, vec_len};
 ghost use Rattle.avro_bytes.specs.Outcome.{outcome_of};
-ghost use Rattle.resolver.specs.Outcome.{IsOutcome};
+ghost use Rattle.spec_avro.specs.PayloadOutcome.{IsOutcome};
 ghost use Rattle.schema_registry.specs.Receipt.{IsReceiptOf};
 ghost use Rattle.session_pool.specs.Seats.{Rests, RestsWorker};
 

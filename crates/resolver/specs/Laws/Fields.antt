@@ -3,14 +3,14 @@ use Rattle.std.proofs.Common.{◌≡◌, ℕ, zero, suc, Bool, true, false, ◌=
 use Rattle.std.specs.List.{AllByRecursion}
 use Rattle.std.proofs.lemmas.List.{length-map, length-set}
 use Rattle.std.proofs.lemmas.Bool.Decides.{nat_tests}
-use Rattle.avro_types.specs.Node.{Node, FieldNode}
-use Rattle.avro_types.specs.Datum.{Datum, Data, no_more, more, how_many}
-use Rattle.resolver.specs.declared.pairing.Partner.{Partner}
-use Rattle.resolver.specs.declared.pairing.Route.{Route}
-use Rattle.resolver.specs.Options.{given}
-use Rattle.resolver.specs.Partners.{by_alias, by_name, field_names, has_partner, partner_at, partners, routes, routes_to, taken_by, with_aliases}
+use Rattle.spec_avro.specs.Node.{Node, FieldNode}
+use Rattle.spec_avro.specs.Datum.{Datum, Data, no_more, more, how_many}
+use Rattle.spec_avro.specs.declared.place.Partner.{Partner}
+use Rattle.spec_avro.specs.declared.place.Route.{Route}
+use Rattle.spec_avro.specs.Options.{given}
+use Rattle.spec_avro.specs.Partners.{by_alias, by_name, field_names, has_partner, partner_at, partners, routes, routes_to, taken_by, with_aliases}
 use Rattle.resolver.specs.Steps.{kept, one_field}
-use Rattle.resolver.specs.Resolution.{Resolved, ◌>>=◌, Slots, no_slots, resolved, resolved_fields}
+use Rattle.spec_avro.specs.Resolution.{Resolved, ◌>>=◌, Slots, no_slots, resolved, resolved_fields}
 
 module _ (W R : List Node) where
   -- what comes of one field, and then of the others

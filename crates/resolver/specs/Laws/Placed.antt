@@ -1,9 +1,9 @@
 -- A datum that is no union's goes by its place.
 use Rattle.std.proofs.Common.{◌≡◌, ℕ, Bool, true, false, List, refl}
-use Rattle.avro_types.specs.Node.{Node}
-use Rattle.avro_types.specs.Datum.{Datum, NullDatum, BooleanDatum, IntDatum, LongDatum, BytesDatum, TextDatum, FixedDatum, EnumDatum, ArrayDatum, MapDatum, UnionDatum, RecordDatum}
-use Rattle.resolver.specs.Matching.{place}
-use Rattle.resolver.specs.Resolution.{placed, resolved}
+use Rattle.spec_avro.specs.Node.{Node}
+use Rattle.spec_avro.specs.Datum.{Datum, NullDatum, BooleanDatum, IntDatum, LongDatum, BytesDatum, TextDatum, FixedDatum, EnumDatum, ArrayDatum, MapDatum, UnionDatum, RecordDatum}
+use Rattle.spec_avro.specs.Matching.{place}
+use Rattle.spec_avro.specs.Resolution.{placed, resolved}
 use Rattle.resolver.specs.Steps.{inside}
 
 abbrev pub is_union_datum : Datum → Bool

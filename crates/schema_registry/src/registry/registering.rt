@@ -2,7 +2,7 @@
 
 ghost use Rattle.std.specs.Prelude.{◌≡◌, ◌<◌, ◌≢◌, ◌↔◌, ◌≤◌, [], ◌∷◌, ◌++◌, Ok, Err, Some, None, true, false, IfErr, IfOk, IsTrue, MatchResult, OnOk, OnErr, length, option_map, string_bytes};
 ghost use Rattle.avro_schema_names.specs.declared.error.SchemaError.{SchemaError};
-ghost use Rattle.avro_types.specs.declared.limits.TheConstants.{MOST_TEXT};
+ghost use Rattle.spec_avro.specs.declared.limits.TheConstants.{MOST_TEXT};
 ghost use Rattle.avro_schema.specs.Schema.{Declaration};
 ghost use Rattle.schema_registry.specs.declared.limits.TheConstants.{MOST_SCHEMAS};
 ghost use Rattle.schema_registry.specs.Accepting.{declaration_of, id_for, registry_after};

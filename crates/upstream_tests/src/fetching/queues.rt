@@ -1,6 +1,6 @@
-//! The rules of the queue. A script has steps: `ask` with an id, the milliseconds after which it is asked for, and those
-//! until which somebody waits, if that is known; `next`; `tell` with an id, the milliseconds after which its fetch has
-//! ended, and a fault if there is one; and `end`. What is answered comes after the arrow.
+//! The rules of the queue. A script has steps: `ask` with an id, the milliseconds after which it is asked for, and
+//! those until which somebody waits, if that is known; `next`; `tell` with an id, the milliseconds after which its
+//! fetch has ended, and a fault if there is one; and `end`. What is answered comes after the arrow.
 
 use crate::listed_upstream::ListedUpstream;
 use crate::texts::{number, same};

@@ -1,8 +1,8 @@
 use Rattle.std.proofs.Common.{get_or}
 use Rattle.std.proofs.lemmas.Option.{slice_get-get_or}
 use Rattle.std.specs.Prelude.{string_bytes}
-use Rattle.avro_bytes.specs.declared.mismatch.Mismatch.{Mismatch}
-use Rattle.avro_bytes.specs.declared.mismatch.MismatchKind.TheVariants.{NoMatch}
+use Rattle.spec_avro.specs.declared.mismatch.Mismatch.{Mismatch}
+use Rattle.spec_avro.specs.declared.mismatch.MismatchKind.TheVariants.{NoMatch}
 use Rattle.assembler.specs.Listing.{miss_line}
 use Rattle.assembler.proofs.Lines.{one_more}
 use Rattle.assembler.proofs.listing.push_misses.Goals as goal

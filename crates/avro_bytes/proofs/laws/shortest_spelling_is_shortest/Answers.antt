@@ -1,5 +1,5 @@
 use Rattle.std.proofs.Common.{lit<, lit≤}
-use Rattle.avro_bytes.specs.Number.{int_limit, long_limit}
+use Rattle.spec_avro.specs.Number.{int_limit, long_limit}
 use Rattle.avro_bytes.specs.Laws.Shortests.{shortest_is_number, shortest_is_shortest}
 use Rattle.avro_bytes.proofs.laws.shortest_spelling_is_shortest.Goals as goal
 

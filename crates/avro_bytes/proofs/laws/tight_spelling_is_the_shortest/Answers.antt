@@ -1,5 +1,5 @@
 use Rattle.std.proofs.Common.{lit≤}
-use Rattle.avro_bytes.specs.Number.{int_limit, long_limit}
+use Rattle.spec_avro.specs.Number.{int_limit, long_limit}
 use Rattle.avro_bytes.specs.Laws.Tights.{tight_number_is_shortest}
 use Rattle.avro_bytes.proofs.laws.tight_spelling_is_the_shortest.Goals as goal
 

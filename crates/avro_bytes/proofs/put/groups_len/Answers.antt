@@ -1,6 +1,6 @@
 use Rattle.std.proofs.Common.{arith}
 use Rattle.avro_bytes.specs.Laws.Shortests.{counts_from, counts_on, counts_to, length-shortest_groups}
-use Rattle.avro_bytes.specs.declared.limits.TheConstants.{LONG_BYTES}
+use Rattle.spec_avro.specs.declared.limits.TheConstants.{LONG_BYTES}
 use Rattle.avro_bytes.proofs.put.groups_len.Goals as goal
 
 pub loop-rest-init : goal.loop-rest-init

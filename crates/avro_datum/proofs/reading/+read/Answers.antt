@@ -6,7 +6,8 @@ use Rattle.avro_datum.proofs.Items as items
 use Rattle.avro_datum.proofs.reading.+read.Goals as goal
 use Rattle.avro_datum.proofs.Fields.{field_below, goes_on, fails, ends}
 use Rattle.avro_bytes.specs.Decoding.{Complete}
-use Rattle.avro_types.specs.Datum.{UnionDatum, datum_of}
+use Rattle.spec_avro.specs.Datum.{UnionDatum}
+use Rattle.avro_types.specs.Datum.{datum_of}
 use Rattle.avro_datum.proofs.ByKind.{array_ends, array_fails, array_not_opened, at_depth, box_fails, fields_end, fields_fail, map_ends, map_fails, map_not_opened, member_ends, member_fails, not_opened, pair_at_depth, position_fails, reads_leaf}
 
 pub read_fields-read_node-requires : goal.read_fields-read_node-requires

@@ -7,7 +7,7 @@ use Rattle.avro_datum.specs.Decoding.{fields_at, node_at, pair_at}
 use Rattle.avro_datum.specs.ItemDecoding.{items_at, steps_left}
 use Rattle.avro_datum.specs.View.{pair_of}
 use Rattle.avro_datum.proofs.Fields.{SoFar}
-use Rattle.avro_bytes.specs.declared.limits.TheConstants.{MOST_DEPTH, MOST_UNITS}
+use Rattle.spec_avro.specs.declared.limits.TheConstants.{MOST_DEPTH, MOST_UNITS}
 
 -- a union's member lies no deeper, a record's, array's or map's parts do
 
@@ -21,10 +21,10 @@ abbrev pub decreases-read_fields : goal.decreases-read_fields
 decreases-read_fields l = 4 * (MOST_DEPTH - l.meter.depth) + 2
 
 abbrev pub decreases-read_items : goal.decreases-read_items
-decreases-read_items l = 4 * (MOST_DEPTH - l.meter.depth) + 2
+decreases-read_items l = 4 * (MOST_DEPTH - l.from.meter.depth) + 2
 
 abbrev pub decreases-read_pairs : goal.decreases-read_pairs
-decreases-read_pairs l = 4 * (MOST_DEPTH - l.meter.depth) + 3
+decreases-read_pairs l = 4 * (MOST_DEPTH - l.from.meter.depth) + 3
 
 abbrev pub decreases-read_pair : goal.decreases-read_pair
 decreases-read_pair l = 4 * (MOST_DEPTH - l.meter.depth) + 2
@@ -41,12 +41,12 @@ invariant-read_fields-loop-field l =
 
 abbrev pub invariant-read_items-loop-data : goal.invariant-read_items-loop-data
 invariant-read_items-loop-data l =
-    let reader = node_at (MOST_DEPTH - l.fn.meter.depth) l.nodes l.bytes l.inner in
+    let reader = node_at (MOST_DEPTH - l.fn.from.meter.depth) l.nodes l.bytes l.inner in
     record {
       within : l.to ≤ length l.bytes;
-      depth : l.so_far.depth ≡ l.fn.meter.depth;
-      units : l.fn.meter.units ≤ l.so_far.units;
-      items : items.SoFar datum_of reader l.bytes (items_at (steps_left l.fn.meter) reader l.bytes l.fn.walk l.fn.at l.fn.meter) l.walk l.data.items l.to l.so_far;
+      depth : l.so_far.depth ≡ l.fn.from.meter.depth;
+      units : l.fn.from.meter.units ≤ l.so_far.units;
+      items : items.SoFar datum_of reader l.bytes (items_at (steps_left l.fn.from.meter) reader l.bytes l.fn.from.walk l.fn.from.at l.fn.from.meter) l.walk l.data.items l.to l.so_far;
     }
 
 abbrev pub decreases-read_items-loop-data : goal.decreases-read_items-loop-data
@@ -54,12 +54,12 @@ decreases-read_items-loop-data l = MOST_UNITS - l.so_far.units
 
 abbrev pub invariant-read_pairs-loop-pairs : goal.invariant-read_pairs-loop-pairs
 invariant-read_pairs-loop-pairs l =
-    let reader = pair_at (node_at (MOST_DEPTH - l.fn.meter.depth) l.nodes l.bytes) l.bytes l.inner in
+    let reader = pair_at (node_at (MOST_DEPTH - l.fn.from.meter.depth) l.nodes l.bytes) l.bytes l.inner in
     record {
       within : l.to ≤ length l.bytes;
-      depth : l.so_far.depth ≡ l.fn.meter.depth;
-      units : l.fn.meter.units ≤ l.so_far.units;
-      items : items.SoFar pair_of reader l.bytes (items_at (steps_left l.fn.meter) reader l.bytes l.fn.walk l.fn.at l.fn.meter) l.walk l.pairs.items l.to l.so_far;
+      depth : l.so_far.depth ≡ l.fn.from.meter.depth;
+      units : l.fn.from.meter.units ≤ l.so_far.units;
+      items : items.SoFar pair_of reader l.bytes (items_at (steps_left l.fn.from.meter) reader l.bytes l.fn.from.walk l.fn.from.at l.fn.from.meter) l.walk l.pairs.items l.to l.so_far;
     }
 
 abbrev pub decreases-read_pairs-loop-pairs : goal.decreases-read_pairs-loop-pairs

@@ -2,7 +2,7 @@ use Rattle.std.proofs.Common.{◌≡◌, ◌++◌, drop}
 use Rattle.avro_datum.proofs.writing.+put.Given as goal
 use Rattle.avro_bytes.specs.Shortest.{Extends}
 use Rattle.avro_types.specs.Datum.{data_of, pairs_of}
-use Rattle.avro_datum.specs.Writing.{written_data, written_pairs}
+use Rattle.spec_avro.specs.Writing.{written_data, written_pairs}
 
 abbrev pub invariant-put_each-loop-datum : goal.invariant-put_each-loop-datum
 invariant-put_each-loop-datum l = record {

@@ -4,7 +4,7 @@ use Rattle.std.specs.Option.{ok_or}
 use Rattle.serde_json.specs.Data.{depth, items_depth}
 use Rattle.serde_json.specs.View.{view, items_view, members_view}
 use Rattle.avro_schema_names.specs.declared.error.SchemaError.TheVariants.{BadDefault}
-use Rattle.avro_types.specs.Datum.{Data, Pairs, Datum, ArrayDatum, MapDatum, RecordDatum, UnionDatum}
+use Rattle.spec_avro.specs.Datum.{Data, Pairs, Datum, ArrayDatum, MapDatum, RecordDatum, UnionDatum}
 use Rattle.avro_schema.specs.Defaults.{value_of}
 use Rattle.serde_json.specs.Find.{get}
 use Rattle.avro_schema_names.specs.Draft.{Whole, draft_field_of, draft_of, drafts_of}

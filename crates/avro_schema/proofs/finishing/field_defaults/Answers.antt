@@ -1,7 +1,8 @@
 use Rattle.std.proofs.Common.{List, Option, option_map, refl, sym, ap, ◌∙◌, arith}
 use Rattle.std.specs.Option.{ok_or}
 use Rattle.avro_schema_names.specs.declared.error.SchemaError.TheVariants.{BadDefault}
-use Rattle.avro_types.specs.Datum.{Datum, datum_of}
+use Rattle.spec_avro.specs.Datum.{Datum}
+use Rattle.avro_types.specs.Datum.{datum_of}
 use Rattle.avro_schema_names.specs.Draft.{drafts_of}
 use Rattle.avro_schema.proofs.Finished.{field_read, fields_read, fields_read-steps, row-on, row-ends}
 use Rattle.avro_schema.proofs.finishing.field_defaults.Goals as goal

@@ -1,17 +1,17 @@
 use Rattle.std.proofs.Common.{rules, codes, ◌≤◌, ◌<◌, ◌≡◌, ◌∙◌, sym, ap, refl, arith, option_map, length, map, [], string_bytes}
-use Rattle.avro_schema_names.specs.Draft.{field_names}
+use Rattle.avro_schema_names.specs.Draft.{field_names, Whole, RecordDraft, draft_field_of}
 use Rattle.std.specs.Arc.{arc_str_bytes}
 use Rattle.std.proofs.lemmas.Result.{err_from_is_err_and}
 use Rattle.serde_json.specs.Data.{string, depth, items_depth}
 use Rattle.serde_json.specs.View.{view, items_view}
 use Rattle.serde_json.specs.declared.value.Value.{the_lemmas}
 use Rattle.serde_json.proofs.Views.{view-Array, view-Object}
-use Rattle.avro_types.specs.declared.limits.TheConstants.{MOST_FIELDS, MOST_NODES}
+use Rattle.spec_avro.specs.declared.limits.TheConstants.{MOST_FIELDS, MOST_NODES}
 use Rattle.avro_schema.specs.Contract.{holder_walk, object_walk}
-use Rattle.avro_schema_names.specs.Draft.{Whole, RecordDraft, draft_field_of}
 use Rattle.avro_schema_names.specs.Head.{Named}
-use Rattle.avro_types.specs.Aliases.{full_names}
-use Rattle.avro_types.specs.Node.{UnionNode, names_of}
+use Rattle.spec_avro.specs.Aliases.{full_names}
+use Rattle.spec_avro.specs.Node.{UnionNode}
+use Rattle.avro_types.specs.Node.{names_of}
 use Rattle.avro_schema.specs.Walk.{walk}
 use Rattle.avro_schema_names.proofs.DraftLists.{map-push}
 use Rattle.avro_schema.proofs.FieldList.{fields-on, fields-fail, fields-end, run-field, run-many}

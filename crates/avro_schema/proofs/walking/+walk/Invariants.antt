@@ -2,9 +2,8 @@ use Rattle.std.proofs.Common.{◌≡◌, ◌+◌, ◌*◌, drop, []}
 use Rattle.std.specs.Arc.{arc_str_bytes}
 use Rattle.serde_json.specs.Data.{depth, items_depth}
 use Rattle.serde_json.specs.View.{view, items_view}
-use Rattle.avro_schema_names.specs.Draft.{field_names}
+use Rattle.avro_schema_names.specs.Draft.{field_names, data_at}
 use Rattle.avro_schema.specs.Contract.{run}
-use Rattle.avro_schema_names.specs.Draft.{data_at}
 use Rattle.avro_schema_names.specs.Index.{IsNamespaceOf}
 use Rattle.avro_schema.specs.Walk.{fields_after, members}
 use Rattle.avro_schema.proofs.FieldList.{behind}

@@ -7,9 +7,10 @@ use Rattle.serde_json.specs.Find.{as_array, as_object}
 use Rattle.serde_json.specs.View.{view, items_view}
 use Rattle.serde_json.specs.declared.value.Value.{the_lemmas}
 use Rattle.serde_json.proofs.Views.{view-Array, view-Object}
-use Rattle.avro_types.specs.Aliases.{full_names}
-use Rattle.avro_types.specs.Node.{ArrayNode, MapNode, UnionNode, names_of}
-use Rattle.avro_types.specs.declared.limits.TheConstants.{MOST_FIELDS, MOST_NODES}
+use Rattle.spec_avro.specs.Aliases.{full_names}
+use Rattle.spec_avro.specs.Node.{ArrayNode, MapNode, UnionNode}
+use Rattle.avro_types.specs.Node.{names_of}
+use Rattle.spec_avro.specs.declared.limits.TheConstants.{MOST_FIELDS, MOST_NODES}
 use Rattle.avro_schema_names.specs.Draft.{RecordDraft, Whole, draft_field_of, field_names}
 use Rattle.avro_schema_names.specs.Head.{heads_of}
 use Rattle.avro_schema_names.proofs.Depths.{item-depth}

@@ -1,7 +1,7 @@
 use Rattle.std.proofs.Common.{arith, ◌∙◌, ◌≡◌, ◌<◌, length, refl}
 use Rattle.std.specs.Arc.{arc_str_bytes}
 use Rattle.std.proofs.lemmas.Result.{err_from_is_err_and}
-use Rattle.avro_types.specs.declared.limits.TheConstants.{MOST_NODES}
+use Rattle.spec_avro.specs.declared.limits.TheConstants.{MOST_NODES}
 use Rattle.avro_schema.proofs.Records.{run-enum}
 use Rattle.avro_schema.proofs.Runs.{run-no_room, run-one}
 use Rattle.avro_schema_faults.proofs.types.walk_enum.Goals as goal

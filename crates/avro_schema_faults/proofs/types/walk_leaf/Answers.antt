@@ -1,6 +1,6 @@
 use Rattle.std.proofs.lemmas.Result.{err_from_is_err_and}
 use Rattle.std.proofs.Common.{arith, ◌≡◌, length, ◌<◌}
-use Rattle.avro_types.specs.declared.limits.TheConstants.{MOST_NODES}
+use Rattle.spec_avro.specs.declared.limits.TheConstants.{MOST_NODES}
 use Rattle.avro_schema.proofs.Runs.{run-no_room, run-leaf}
 use Rattle.avro_schema_faults.proofs.types.walk_leaf.Goals as goal
 

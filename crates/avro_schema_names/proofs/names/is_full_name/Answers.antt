@@ -1,5 +1,5 @@
 use Rattle.std.proofs.Common.{rules, ◌≡◌, sym, ◌∙◌, ap, lit<, refl}
-use Rattle.avro_types.specs.FullNames.{is_name, is_full_name}
+use Rattle.spec_avro.specs.FullNames.{is_name, is_full_name}
 use Rattle.avro_schema_names.proofs.DottedNames.{full_single, full_parts}
 use Rattle.avro_schema_names.proofs.names.is_full_name.Goals as goal
 

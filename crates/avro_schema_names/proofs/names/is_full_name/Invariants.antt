@@ -1,7 +1,7 @@
 use Rattle.std.proofs.Common.{◌≡◌, length}
 use denote.Text.{Utf8}
 use denote.Shadow.{shadow}
-use Rattle.avro_types.specs.FullNames.{is_full_name}
+use Rattle.spec_avro.specs.FullNames.{is_full_name}
 use Rattle.avro_schema_names.proofs.names.is_full_name.Given as goal
 
 abbrev pub invariant-loop-part : goal.invariant-loop-part

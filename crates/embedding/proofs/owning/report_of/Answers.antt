@@ -2,7 +2,7 @@ use Rattle.std.proofs.Common.{◌++◌, refl, subst, arith}
 use Rattle.std.proofs.lemmas.List.{length-append}
 use Rattle.avro_bytes.specs.Outcome.{outcome_of}
 use Rattle.avro_bytes.specs.declared.payload.Outcome as rust
-use Rattle.resolver.specs.Outcome.{IsOutcome}
+use Rattle.spec_avro.specs.PayloadOutcome.{IsOutcome}
 use Rattle.embedding.proofs.owning.report_of.Goals as goal
 
 pub returns-then-length-room : goal.returns-then-length-room

@@ -1,7 +1,6 @@
 -- The router takes the routes one after another, and none is in its way.
 use Rattle.std.proofs.Common.{refl}
-use Rattle.gateway_requests.proofs.Free.{subjects-free, subject-free, versions-free, version-free, schema-free}
-use Rattle.gateway_requests.proofs.Free.{compatibility-free, config-free, subject_config-free, transcode-free}
+use Rattle.gateway_requests.proofs.Free.{subjects-free, subject-free, versions-free, version-free, schema-free, compatibility-free, config-free, subject_config-free, transcode-free}
 use Rattle.gateway_requests.proofs.route.all_routes.Goals as goal
 
 pub add-requires : goal.add-requires

@@ -2,7 +2,7 @@
 use Rattle.std.proofs.Common.{◌≡◌, drop, length}
 use Rattle.std.specs.Prelude.{◌==◌}
 use Rattle.avro_types.specs.Datum.{data_of}
-use Rattle.avro_datum.specs.Writing.{written_data}
+use Rattle.spec_avro.specs.Writing.{written_data}
 use Rattle.program_compiler.proofs.blank.+blank.Given as goal
 
 abbrev pub invariant-are_blank-loop-datum : goal.invariant-are_blank-loop-datum

@@ -1,7 +1,7 @@
 -- The constants so far, with those that the statements left name, are all of them.
 use Rattle.std.proofs.Common.{◌≡◌, drop, List}
 use Rattle.std.specs.Str.{bytes_eq}
-use Rattle.avro_types.specs.Node.{Node}
+use Rattle.spec_avro.specs.Node.{Node}
 use Rattle.program_definition.specs.Numbering.{adding, constants_in, constants_of, named_in}
 use Rattle.program_ir.specs.Statements.{statements_in}
 use Rattle.program_compiler.specs.Tables.{AreDefaults}

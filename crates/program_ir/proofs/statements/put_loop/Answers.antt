@@ -2,8 +2,7 @@
 use Rattle.std.proofs.Common.{◌≡◌, length, rules}
 use Rattle.std.proofs.lemmas.Result.{on_ok_weaker}
 use Rattle.program_ir.specs.Statements.{go_of, statements_in}
-use Rattle.program_ir.proofs.Appended.{loop_on}
-use Rattle.program_ir.proofs.Appended.{statements_length}
+use Rattle.program_ir.proofs.Appended.{loop_on, statements_length}
 use Rattle.program_ir.proofs.statements.put_loop.Goals as goal
 
 pub returns : goal.returns

@@ -1,7 +1,7 @@
 -- A slot for each field so far.
 use Rattle.std.proofs.Common.{◌≡◌, length, take}
 use Rattle.avro_types.specs.Node.{fields_of}
-use Rattle.resolver.specs.Resolution.{no_slots}
+use Rattle.spec_avro.specs.Resolution.{no_slots}
 use Rattle.resolver.specs.Steps.{slots_of}
 use Rattle.resolver.proofs.fields.empty_slots.Given as goal
 

@@ -4,7 +4,7 @@ use Rattle.std.specs.Slice.Iter.{iter_rest}
 use Rattle.std.specs.Vec.Iter.{into_iter_items, into_iter_len}
 use Rattle.avro_types.specs.Node.{fields_of}
 use Rattle.avro_types.specs.Datum.{data_of}
-use Rattle.resolver.specs.Resolution.{filled}
+use Rattle.spec_avro.specs.Resolution.{filled}
 use Rattle.resolver.specs.Steps.{slots_of}
 use Rattle.resolver.proofs.Items.{joined}
 use Rattle.resolver.proofs.fields.fill.Given as goal

@@ -1,7 +1,7 @@
 -- The fields so far lack nothing, so what lacks is what lacks among the rest.
 use Rattle.std.proofs.Common.{◌≡◌, drop}
 use Rattle.avro_types.specs.Node.{fields_of}
-use Rattle.resolver.specs.Resolution.{lacking_from}
+use Rattle.spec_avro.specs.Resolution.{lacking_from}
 use Rattle.resolver.proofs.fields.first_lacking.Given as goal
 
 abbrev pub invariant-loop-position : goal.invariant-loop-position

@@ -1,7 +1,8 @@
 -- Bytes that are UTF-8 become a string.
 use Rattle.std.proofs.Common.{rules, ◌≡◌, Some, ap, ◌∙◌, slice_get, string_bytes}
 use Rattle.std.proofs.lemmas.Str.{IsUtf8-string_bytes}
-use Rattle.avro_types.specs.Node.{TextNode, node_of}
+use Rattle.spec_avro.specs.Node.{TextNode}
+use Rattle.avro_types.specs.Node.{node_of}
 use Rattle.resolver.proofs.Texts.{text_made}
 use Rattle.resolver.proofs.leaves.bytes_for.Goals as goal
 

@@ -1,7 +1,7 @@
 -- The partners of the fields so far.
 use Rattle.std.proofs.Common.{◌≡◌, take, IfSome}
 use Rattle.avro_types.specs.Node.{fields_of}
-use Rattle.resolver.specs.Partners.{by_name, field_names}
+use Rattle.spec_avro.specs.Partners.{by_name, field_names}
 use Rattle.resolver.proofs.pairing.by_name.Given as goal
 
 abbrev pub invariant-loop-field : goal.invariant-loop-field

@@ -1,7 +1,7 @@
 -- No name so far is of a field without a partner.
 use Rattle.std.proofs.Common.{◌≡◌, drop, map, string_bytes}
 use Rattle.avro_types.specs.Node.{fields_of}
-use Rattle.resolver.specs.Partners.{field_names, first_free}
+use Rattle.spec_avro.specs.Partners.{field_names, first_free}
 use Rattle.resolver.proofs.pairing.first_free.Given as goal
 
 abbrev pub invariant-loop-alias : goal.invariant-loop-alias

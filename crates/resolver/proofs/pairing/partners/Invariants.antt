@@ -1,7 +1,7 @@
 -- The partners so far lead to those in the end.
 use Rattle.std.proofs.Common.{◌≡◌, drop, length}
 use Rattle.avro_types.specs.Node.{fields_of}
-use Rattle.resolver.specs.Partners.{field_names, partners, with_aliases}
+use Rattle.spec_avro.specs.Partners.{field_names, partners, with_aliases}
 use Rattle.resolver.proofs.pairing.partners.Given as goal
 
 abbrev pub invariant-loop-position : goal.invariant-loop-position

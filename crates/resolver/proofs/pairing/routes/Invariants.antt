@@ -2,7 +2,7 @@
 use Rattle.std.proofs.Common.{◌≡◌, ◌++◌}
 use Rattle.std.specs.Slice.Iter.{iter_rest}
 use Rattle.avro_types.specs.Node.{fields_of}
-use Rattle.resolver.specs.Partners.{routes, routes_to}
+use Rattle.spec_avro.specs.Partners.{routes, routes_to}
 use Rattle.resolver.proofs.pairing.routes.Given as goal
 
 abbrev pub invariant-loop-field : goal.invariant-loop-field

@@ -1,7 +1,7 @@
 -- The names so far.
 use Rattle.std.proofs.Common.{◌≡◌, map, take, string_bytes}
 use Rattle.avro_types.specs.Node.{fields_of}
-use Rattle.resolver.specs.Partners.{field_names}
+use Rattle.spec_avro.specs.Partners.{field_names}
 use Rattle.resolver.proofs.pairing.table.Given as goal
 
 abbrev pub invariant-loop-field : goal.invariant-loop-field

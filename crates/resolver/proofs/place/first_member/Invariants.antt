@@ -1,6 +1,6 @@
 -- No member so far matches.
 use Rattle.std.proofs.Common.{◌≡◌, drop}
-use Rattle.resolver.specs.Matching.{first_member, matches}
+use Rattle.spec_avro.specs.Matching.{first_member, matches}
 use Rattle.resolver.proofs.place.first_member.Given as goal
 
 abbrev pub invariant-loop-position : goal.invariant-loop-position

@@ -4,7 +4,7 @@ use Rattle.std.specs.Slice.Iter.{iter_rest}
 use Rattle.std.specs.Vec.Iter.{into_iter_items, into_iter_len}
 use Rattle.avro_types.specs.Datum.{data_of, pairs_of}
 use Rattle.resolver.specs.Steps.{slots_of}
-use Rattle.resolver.specs.Resolution.{resolved_fields, resolved_items, resolved_values}
+use Rattle.spec_avro.specs.Resolution.{resolved_fields, resolved_items, resolved_values}
 use denote.Param.Weighed.{most}
 use Rattle.avro_types.proofs.datum.Datum.TheLaws.{the_size}
 use Rattle.std.proofs.Common.{◌+◌, ◌*◌, max}

@@ -2,7 +2,7 @@
 use Rattle.std.proofs.Common.{rules, ◌≡◌, true, false, ◌<◌, length, arith, ap, ◌∙◌}
 use Rattle.resolver.specs.Pairs.{Listed, AddsAll}
 use Rattle.resolver.specs.NextPairs.{is_bad, next_pairs}
-use Rattle.resolver.specs.Safety.{Reached}
+use Rattle.spec_avro.specs.Safety.{Reached}
 use Rattle.resolver.proofs.Leading.{told_bad}
 use Rattle.resolver.proofs.Closed.{all_at, kept_on, kept_end, kept_first, told_good, told_none}
 use Rattle.resolver.proofs.safety.can_read.Goals as goal

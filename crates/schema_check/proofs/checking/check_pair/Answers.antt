@@ -1,6 +1,6 @@
 -- Each turn is one of the walk, and after the last all that is reached is there.
 use Rattle.std.proofs.Common.{◌≡◌, ◌<◌, ◌-◌, ◌++◌, ◌∷◌, [], List, ℕ, Option, length, replicate, arith, ap, ◌∙◌, subst, sym}
-use Rattle.avro_bytes.specs.declared.mismatch.MismatchKind.{MismatchKind}
+use Rattle.spec_avro.specs.declared.mismatch.MismatchKind.{MismatchKind}
 use Rattle.resolver.specs.NextPairs.{next_pairs}
 use Rattle.schema_check.specs.BadPairs.{AreWithin, entry}
 use Rattle.schema_check.specs.Pairs.{Listed, pair_at, pairs_at, with_all}

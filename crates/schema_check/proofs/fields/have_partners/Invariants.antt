@@ -1,6 +1,6 @@
 -- A mark for each field that a route so far goes to.
 use Rattle.std.proofs.Common.{◌≡◌, ◌<◌, ℕ, false, length, take, slice_index_or}
-use Rattle.resolver.specs.Partners.{has_partner}
+use Rattle.spec_avro.specs.Partners.{has_partner}
 use Rattle.schema_check.proofs.fields.have_partners.Given as goal
 
 abbrev pub invariant-loop-route : goal.invariant-loop-route

@@ -1,7 +1,7 @@
 use Rattle.std.proofs.Common.{List, ℕ, Vec, sym, subst, ap, ◌∙◌}
 use Rattle.std.specs.declared.alloc.Global.{Global}
 use Rattle.std.proofs.lemmas.Result.{IfOk-weaker}
-use Rattle.avro_types.specs.Node.{Node}
+use Rattle.spec_avro.specs.Node.{Node}
 use Rattle.avro_schema_paths.specs.declared.step.Step.{Step}
 use Rattle.schema_report.specs.Listing.{node_lines}
 use Rattle.schema_report.specs.Reports.{AnswersNodes, listed}

@@ -3,7 +3,7 @@ use Rattle.std.specs.BTreeMap.{UpdatesBy}
 use Rattle.std.specs.Ordering.{nat_cmp}
 use Rattle.std.specs.Cmp.Lexicographic.{slice_cmp}
 use Rattle.std.specs.String.{string_cmp}
-use Rattle.avro_types.specs.FullNames.{namespace_of, unqualified}
+use Rattle.spec_avro.specs.FullNames.{namespace_of, unqualified}
 use Rattle.avro_types.specs.Laws.NameParts.{name-undotted, parts-ruled}
 use Rattle.avro_schema_names.specs.Draft.{draft_of, drafts_of}
 use Rattle.avro_schema_names.specs.Head.{Named, heads_of}

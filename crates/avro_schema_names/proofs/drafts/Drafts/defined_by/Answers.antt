@@ -1,9 +1,9 @@
 use Rattle.std.proofs.Common.{◌≡◌, length, rules, sym, ap, ◌∙◌}
 use Rattle.std.specs.Vec.{vec_len}
-use Rattle.avro_types.specs.FullNames.{inside}
+use Rattle.spec_avro.specs.FullNames.{inside}
 use Rattle.avro_types.specs.Laws.Dots.{namespace-inside}
 use Rattle.avro_types.specs.Laws.Placed.{none-used, place-some}
-use Rattle.avro_types.specs.Symbols.{is_used}
+use Rattle.spec_avro.specs.Symbols.{is_used}
 use Rattle.avro_schema_names.specs.Draft.{drafts_of}
 use Rattle.avro_schema_names.specs.Head.{heads_of}
 use Rattle.avro_schema_names.specs.Index.{namespaces_of}

@@ -3,7 +3,7 @@ use Rattle.std.specs.Arc.{arc_str_bytes}
 use Rattle.std.specs.BTreeSet.{contains_text}
 use Rattle.std.specs.Str.{bytes_eq}
 use Rattle.avro_types.specs.Aliases.{stands_under}
-use Rattle.avro_types.specs.Symbols.{is_used}
+use Rattle.spec_avro.specs.Symbols.{is_used}
 use Rattle.avro_types.proofs.AliasPlaces.{found-alone, found-name, found-under}
 use Rattle.avro_types.proofs.aliases.Aliases.contains.Goals as goal
 

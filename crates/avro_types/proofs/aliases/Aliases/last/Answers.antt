@@ -4,7 +4,7 @@ use Rattle.std.specs.Prelude.{slice_get}
 use Rattle.std.specs.Arc.{arc_str_bytes}
 use Rattle.std.proofs.lemmas.Bool.Decides.{nat_tests}
 use Rattle.std.proofs.lemmas.Option.{slice_get-map, slice_get_past, slice_get_read}
-use Rattle.avro_types.specs.FullNames.{full_name, unqualified}
+use Rattle.spec_avro.specs.FullNames.{full_name, unqualified}
 use Rattle.avro_types.proofs.aliases.Aliases.last.Goals as goal
 
 pub returns-in-Some : goal.returns-in-Some

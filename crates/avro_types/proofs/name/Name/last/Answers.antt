@@ -1,6 +1,6 @@
 use Rattle.std.proofs.Common.{◌∙◌, sym, ap, string_bytes}
 use Rattle.std.specs.Arc.{arc_str_bytes}
-use Rattle.avro_types.specs.FullNames.{unqualified}
+use Rattle.spec_avro.specs.FullNames.{unqualified}
 use Rattle.avro_types.specs.Laws.Dots.{unqualified-inside}
 use Rattle.avro_types.specs.Laws.NameParts.{name-undotted}
 use Rattle.avro_types.proofs.name.Name.last.Goals as goal

@@ -1,5 +1,5 @@
 use Rattle.std.proofs.Common.{◌∙◌, ap}
-use Rattle.avro_types.specs.Symbols.{place_of}
+use Rattle.spec_avro.specs.Symbols.{place_of}
 use Rattle.avro_types.proofs.SymbolPositions.{position-within}
 use Rattle.avro_types.proofs.symbols.Symbols.position_of.Goals as goal
 

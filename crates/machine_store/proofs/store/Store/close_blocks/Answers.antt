@@ -1,6 +1,6 @@
 use Rattle.std.proofs.Common.{◌≢◌, ◌∙◌, ◌∷◌, ◌++◌, [], List, ℕ, ap, length, sym}
 use Rattle.std.proofs.lemmas.Result.{on_ok_weaker}
-use Rattle.avro_bytes.specs.Written.{block_count}
+use Rattle.spec_avro.specs.Written.{block_count}
 use Rattle.machine_store.specs.Frames.{items_of}
 use Rattle.machine_store.specs.Store.{closed_between}
 use Rattle.machine_store.proofs.Closing.{blocks-closed, none-closed}

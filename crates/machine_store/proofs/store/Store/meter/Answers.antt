@@ -1,6 +1,6 @@
 use Rattle.std.proofs.Common.{◌≡◌, ◌∙◌, ◌∷◌, ℕ, ap, arith, length, reverse}
 use Rattle.std.proofs.lemmas.List.{length-reverse}
-use Rattle.avro_bytes.specs.declared.meter.Meter.{Meter}
+use Rattle.spec_avro.specs.declared.meter.Meter.{Meter}
 use Rattle.machine_store.specs.Store.{Held, meter_of, texts_of}
 use Rattle.machine_store.proofs.Keeping.{depth}
 use Rattle.machine_store.proofs.store.Store.meter.Goals as goal

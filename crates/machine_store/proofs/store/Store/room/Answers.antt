@@ -1,5 +1,5 @@
 use Rattle.std.proofs.Common.{◌-◌, ℕ, ap}
-use Rattle.avro_bytes.specs.declared.limits.TheConstants.{MOST_OUTPUT}
+use Rattle.spec_avro.specs.declared.limits.TheConstants.{MOST_OUTPUT}
 use Rattle.machine_store.proofs.store.Store.room.Goals as goal
 
 pub returns : goal.returns

@@ -1,5 +1,5 @@
 -- The positions of one union more.
-use Rattle.avro_types.specs.Node.{UnionNode}
+use Rattle.spec_avro.specs.Node.{UnionNode}
 use Rattle.program_compiler.proofs.Kept.{placed_on}
 use Rattle.program_compiler.proofs.known.Known.note_positions.Goals as goal
 

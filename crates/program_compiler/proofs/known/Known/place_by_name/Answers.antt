@@ -1,12 +1,12 @@
 -- The candidates are the nodes that have the writer's unqualified name.
 use Rattle.std.proofs.Common.{◌≡◌, ◌∙◌, ℕ, List, Option, Some, ap, subst, sym, true, false}
 use Rattle.std.specs.Prelude.{IfSome, slice_get}
-use Rattle.avro_types.specs.FullNames.{unqualified}
-use Rattle.avro_types.specs.Node.{Node, UnionNode}
-use Rattle.avro_types.specs.Symbols.{is_used}
-use Rattle.avro_types.specs.WellFormed.{is_union}
-use Rattle.resolver.specs.Matches.{Matches}
-use Rattle.resolver.specs.Matching.{matches, place_at}
+use Rattle.spec_avro.specs.FullNames.{unqualified}
+use Rattle.spec_avro.specs.Node.{Node, UnionNode}
+use Rattle.spec_avro.specs.Symbols.{is_used}
+use Rattle.spec_avro.specs.WellFormed.{is_union}
+use Rattle.spec_avro.specs.Matches.{Matches}
+use Rattle.spec_avro.specs.Matching.{matches, place_at}
 use Rattle.resolver.proofs.Members.{member_no_union, members_below}
 use Rattle.program_compiler.specs.NamedTypes.{AreTypesOf, is_among, nodes_under, unqualified_names}
 use Rattle.program_compiler.specs.declared.named_types.NamedTypes.{NamedTypes}

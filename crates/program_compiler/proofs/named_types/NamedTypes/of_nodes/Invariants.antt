@@ -1,7 +1,7 @@
 -- The nodes so far.
 use Rattle.std.proofs.Common.{◌≡◌, ℕ, List, take}
 use Rattle.std.specs.Prelude.{slice_get}
-use Rattle.avro_types.specs.Symbols.{is_used}
+use Rattle.spec_avro.specs.Symbols.{is_used}
 use Rattle.program_compiler.specs.NamedTypes.{stands_under, unqualified_names}
 use Rattle.program_compiler.proofs.named_types.NamedTypes.of_nodes.Given as goal
 

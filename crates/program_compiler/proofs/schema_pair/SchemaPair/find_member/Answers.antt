@@ -2,7 +2,7 @@
 use Rattle.std.proofs.Common.{◌≡◌, ◌∙◌, ◌≤◌, ◌&&◌, ℕ, Bool, List, None, Option, ap, cond, get_or, length, sym, take}
 use Rattle.std.specs.List.{position_from}
 use Rattle.std.proofs.lemmas.List.{take_all}
-use Rattle.resolver.specs.Matching.{matches}
+use Rattle.spec_avro.specs.Matching.{matches}
 use Rattle.program_compiler.specs.Members.{least}
 use Rattle.program_compiler.specs.NamedTypes.{is_among}
 use Rattle.program_compiler.proofs.FirstMember.{first_at, first_none, first_of_none, first_on}

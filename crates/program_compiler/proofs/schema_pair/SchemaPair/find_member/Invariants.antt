@@ -1,7 +1,7 @@
 -- The first of the candidates so far.
 use Rattle.std.proofs.Common.{◌≡◌, ◌&&◌, take}
 use Rattle.std.specs.List.{position_from}
-use Rattle.resolver.specs.Matching.{matches}
+use Rattle.spec_avro.specs.Matching.{matches}
 use Rattle.program_compiler.specs.NamedTypes.{is_among}
 use Rattle.program_compiler.proofs.schema_pair.SchemaPair.find_member.Given as goal
 

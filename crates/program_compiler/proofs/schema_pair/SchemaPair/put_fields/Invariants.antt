@@ -1,7 +1,7 @@
 -- The statements so far, before those of the fields that are left, are all of them.
 use Rattle.std.proofs.Common.{◌≡◌, ◌++◌, drop, length}
 use Rattle.resolver.specs.Partners.{AreRoutes}
-use Rattle.avro_types.specs.declared.limits.TheConstants.{MOST_FIELDS}
+use Rattle.spec_avro.specs.declared.limits.TheConstants.{MOST_FIELDS}
 use Rattle.program_definition.specs.Writing.{fields_code}
 use Rattle.program_compiler.specs.Known.{AreKnown}
 use Rattle.program_ir.specs.Statements.{statements_in}

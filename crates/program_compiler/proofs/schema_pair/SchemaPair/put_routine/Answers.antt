@@ -3,12 +3,13 @@ use Rattle.std.proofs.Common.{◌++◌, ap, sym, subst, ◌∙◌, refl, List, l
 use Rattle.std.specs.Prelude.{slice_get}
 use Rattle.std.proofs.lemmas.List.{length-map}
 use Rattle.std.proofs.lemmas.Result.{on_ok_weaker}
-use Rattle.avro_types.specs.declared.limits.TheConstants.{MOST_FIELDS}
+use Rattle.spec_avro.specs.declared.limits.TheConstants.{MOST_FIELDS}
 use Rattle.avro_types.specs.Node.{field_of, fields_of}
-use Rattle.resolver.specs.declared.pairing.Route.{Route}
-use Rattle.resolver.specs.Partners.{AreRoutes, routes}
+use Rattle.spec_avro.specs.declared.place.Route.{Route}
+use Rattle.resolver.specs.Partners.{AreRoutes}
+use Rattle.spec_avro.specs.Partners.{routes}
 use Rattle.program_definition.specs.Writing.{defaults_code, fields_code, write_routine}
-use Rattle.resolver.specs.Resolution.{field_lists}
+use Rattle.spec_avro.specs.Resolution.{field_lists}
 use Rattle.resolver.specs.Steps.{both_lists}
 use Rattle.program_ir.specs.Statements.{statements_in, routine_statements}
 use Rattle.program_compiler.proofs.RoutineSteps.{few_fields, routes_within, same_fields}

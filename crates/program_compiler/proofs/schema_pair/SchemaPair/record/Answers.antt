@@ -2,7 +2,7 @@
 use Rattle.std.proofs.Common.{◌≡◌, ◌++◌, [], ◌∷◌, true, false, ap, sym, ◌∙◌, is_some, not}
 use Rattle.std.proofs.lemmas.Result.{on_ok_weaker}
 use Rattle.std.specs.Prelude.{slice_get}
-use Rattle.resolver.specs.Resolution.{field_lists}
+use Rattle.spec_avro.specs.Resolution.{field_lists}
 use Rattle.resolver.specs.Steps.{both_lists}
 use Rattle.program_ir.specs.Statements.{statements_in, record_statement}
 use Rattle.program_ir.proofs.Appended.{two}

@@ -1,7 +1,7 @@
 -- One pair more is added.
 use Rattle.std.proofs.Common.{rules, ℕ, suc, ◌+◌, ◌<◌, ◌≡◌, ◌∙◌, List, length, sym, ap, arith, drop, get_or, ◌∷◌}
 use Rattle.std.proofs.Math.Seq.{drop-cons}
-use Rattle.resolver.specs.Safety.{Pair}
+use Rattle.spec_avro.specs.Safety.{Pair}
 use Rattle.schema_check.specs.Pairs.{with_all, with_one}
 use Rattle.schema_check.proofs.pairs.PairList.add_all.Goals as goal
 

@@ -1,5 +1,5 @@
 use Rattle.std.proofs.Common.{◌≤◌, length, subst, sym}
-use Rattle.avro_bytes.specs.declared.limits.TheConstants.{MOST_PAYLOAD}
+use Rattle.spec_avro.specs.declared.limits.TheConstants.{MOST_PAYLOAD}
 use Rattle.session_core.specs.SessionEnding.{SessionLeadsToOutcome}
 use Rattle.session_core.specs.Session.{Session}
 use Rattle.session_core.proofs.Ends.{ends_within}

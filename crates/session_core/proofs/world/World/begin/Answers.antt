@@ -1,7 +1,6 @@
-use Rattle.std.proofs.Common.{sym, ap, subst}
+use Rattle.std.proofs.Common.{sym, ap, subst, ◌≡◌, Some}
 use Rattle.session_core.specs.Session.{Session}
 use Rattle.session_core.specs.World.{IsCodeOf, World, program_at}
-use Rattle.std.proofs.Common.{◌≡◌, Some}
 use Rattle.session_core.proofs.Worlds.{found-here, kept-by-push}
 use Rattle.session_core.proofs.world.World.begin.Goals as goal
 

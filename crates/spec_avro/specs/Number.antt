@@ -1,5 +1,5 @@
 -- Numbers (Avro 1.11, "Binary Encoding", int and long): zig-zag, then seven bits a byte, the least first.
-use Rattle.avro_bytes.specs.declared.limits.TheConstants.{INT_BYTES, INT_LAST, LONG_BYTES, LONG_LAST}
+use Rattle.spec_avro.specs.declared.limits.TheConstants.{INT_BYTES, INT_LAST, LONG_BYTES, LONG_LAST}
 use Rattle.std.specs.Prelude.{◌≡◌, ◌≤◌, ◌<◌, ℕ, ◌+◌, ◌-◌, ◌*◌, ◌%◌, List, [], ◌∷◌, length, slice_index, ℤ, pos, negsuc}
 
 -- the low seven bits of each byte, times 1, 128, 128 * 128 ..

@@ -1,17 +1,17 @@
 -- When the schemas alone show that every datum of a writer can be read: where no bad pair is reached (Avro 1.11,
 -- "Schema Resolution").
 use Rattle.std.specs.Prelude.{◌≡◌, ℕ, Bool, true, false, List, Option, Some, None, Ok, Err, slice_get}
-use Rattle.avro_types.specs.Node.{Node, FieldNode, EnumNode, UnionNode}
-use Rattle.avro_types.specs.WellFormed.{IsWellFormed, is_union}
-use Rattle.avro_types.specs.Datum.{Datum}
-use Rattle.avro_types.specs.Conforming.{Conforms}
-use Rattle.avro_bytes.specs.declared.mismatch.MismatchKind.TheVariants.{BytesNotText}
-use Rattle.resolver.specs.declared.place.Destination.TheVariants.{Straight, IntoMember, Nowhere, Unmatched}
-use Rattle.resolver.specs.Matching.{both_items, both_values, place}
-use Rattle.resolver.specs.Partners.{routes}
-use Rattle.resolver.specs.declared.pairing.Partner.{Partner}
-use Rattle.resolver.specs.declared.pairing.Route.{Route}
-use Rattle.resolver.specs.Resolution.{Resolved, field_lists, lacking, resolved, symbol_at, symbol_for}
+use Rattle.spec_avro.specs.Node.{Node, FieldNode, EnumNode, UnionNode}
+use Rattle.spec_avro.specs.WellFormed.{IsWellFormed, is_union}
+use Rattle.spec_avro.specs.Datum.{Datum}
+use Rattle.spec_avro.specs.Conforming.{Conforms}
+use Rattle.spec_avro.specs.declared.mismatch.MismatchKind.TheVariants.{BytesNotText}
+use Rattle.spec_avro.specs.declared.place.Destination.TheVariants.{Straight, IntoMember, Nowhere, Unmatched}
+use Rattle.spec_avro.specs.Matching.{both_items, both_values, place}
+use Rattle.spec_avro.specs.Partners.{routes}
+use Rattle.spec_avro.specs.declared.place.Partner.{Partner}
+use Rattle.spec_avro.specs.declared.place.Route.{Route}
+use Rattle.spec_avro.specs.Resolution.{Resolved, field_lists, lacking, resolved, symbol_at, symbol_for}
 
 -- a writer's node and a reader's
 abbrev pub Pair : Type 0

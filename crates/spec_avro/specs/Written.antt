@@ -2,7 +2,7 @@
 -- and maps).
 -- This project's own rule: numbers in their shortest spelling, and items in one block without a size.
 use Rattle.std.specs.Prelude.{ℕ, zero, suc, List, [], ◌++◌, length, pos}
-use Rattle.avro_bytes.specs.Shortest.{shortest}
+use Rattle.spec_avro.specs.Shortest.{shortest}
 
 -- bytes after their length
 abbrev pub after_length : List ℕ → List ℕ

@@ -1,8 +1,8 @@
 -- How long the texts in data are and how many items arrays and maps have; and so in the defaults of a schema.
 use Rattle.std.specs.Prelude.{◌≡◌, ◌≤◌, ℕ, List, length, Some, IfSome, slice_get}
 use Rattle.std.specs.List.{AllByRecursion}
-use Rattle.avro_types.specs.Datum.{Datum, Data, Pairs, NullDatum, BooleanDatum, IntDatum, LongDatum, BytesDatum, TextDatum, FixedDatum, EnumDatum, ArrayDatum, MapDatum, UnionDatum, RecordDatum, no_more, more, no_pairs, pair, how_many, how_many_pairs}
-use Rattle.avro_types.specs.Node.{Node, Names, FieldNode, RecordNode}
+use Rattle.spec_avro.specs.Datum.{Datum, Data, Pairs, NullDatum, BooleanDatum, IntDatum, LongDatum, BytesDatum, TextDatum, FixedDatum, EnumDatum, ArrayDatum, MapDatum, UnionDatum, RecordDatum, no_more, more, no_pairs, pair, how_many, how_many_pairs}
+use Rattle.spec_avro.specs.Node.{Node, Names, FieldNode, RecordNode}
 
 -- No text, byte string or key is longer than `text` (a fixed has no length that is written), and no array or map has
 -- more than `items` items.

@@ -2,22 +2,22 @@
 -- Which bytes spell none is the standard's rule (Avro 1.11, "Binary Encoding"). This project's own rules: the kinds
 -- of faults, their places, and the limits.
 use Rattle.std.specs.Prelude.{◌≡◌, ℕ, List, ◌∷◌, ◌++◌, length, Option, Some, None, slice_get, true, false}
-use Rattle.avro_bytes.specs.declared.meter.Meter.{Meter}
-use Rattle.avro_bytes.specs.declared.fault.MalformedKind.{MalformedKind}
-use Rattle.avro_bytes.specs.declared.fault.MalformedKind.TheVariants.{BadEnum, BadBranch, Truncated, Trailing}
-use Rattle.avro_bytes.specs.Blob.{FaultyFixed}
-use Rattle.avro_bytes.specs.Boolean.{FaultyBoolean}
-use Rattle.avro_bytes.specs.Meter.{Counts, OpensBlocks, OpensRecord, RefusesBlocks, RefusesRecord, start}
-use Rattle.avro_bytes.specs.Number.{int_limit, long_limit}
-use Rattle.avro_bytes.specs.Text.{IsText}
-use Rattle.avro_types.specs.Node.{Node, Names, FieldNode, BooleanNode, IntNode, LongNode, BytesNode, TextNode, FixedNode, EnumNode, ArrayNode, MapNode, UnionNode, RecordNode}
-use Rattle.avro_types.specs.WellFormed.{is_union}
-use Rattle.avro_types.specs.Datum.{Datum}
-use Rattle.avro_datum.specs.ItemFault.{Begins, FaultyBlocks}
-use Rattle.avro_bytes.specs.Position.{FaultyPosition, SpellsPosition}
-use Rattle.avro_datum.specs.Spelling.{Spells, Fits, depth_of, units_of}
-use Rattle.avro_bytes.specs.Decoding.{Defect, Malformed, Need}
-use Rattle.avro_bytes.specs.Fault.{FaultyContent, FaultyNumber, FaultyText, shifted}
+use Rattle.spec_avro.specs.declared.meter.Meter.{Meter}
+use Rattle.spec_avro.specs.declared.malformed.MalformedKind.{MalformedKind}
+use Rattle.spec_avro.specs.declared.malformed.MalformedKind.TheVariants.{BadEnum, BadBranch, Truncated, Trailing}
+use Rattle.spec_avro.specs.Blob.{FaultyFixed}
+use Rattle.spec_avro.specs.Boolean.{FaultyBoolean}
+use Rattle.spec_avro.specs.Meter.{Counts, OpensBlocks, OpensRecord, RefusesBlocks, RefusesRecord, start}
+use Rattle.spec_avro.specs.Number.{int_limit, long_limit}
+use Rattle.spec_avro.specs.Text.{IsText}
+use Rattle.spec_avro.specs.Node.{Node, Names, FieldNode, BooleanNode, IntNode, LongNode, BytesNode, TextNode, FixedNode, EnumNode, ArrayNode, MapNode, UnionNode, RecordNode}
+use Rattle.spec_avro.specs.WellFormed.{is_union}
+use Rattle.spec_avro.specs.Datum.{Datum}
+use Rattle.spec_avro.specs.ItemFault.{Begins, FaultyBlocks}
+use Rattle.spec_avro.specs.Position.{FaultyPosition, SpellsPosition}
+use Rattle.spec_avro.specs.Spelling.{Spells, Fits, depth_of, units_of}
+use Rattle.spec_avro.specs.Defect.{Defect, Malformed, Need}
+use Rattle.spec_avro.specs.Fault.{FaultyContent, FaultyNumber, FaultyText, shifted}
 
 -- a key, and a datum of the node after it
 abbrev pub SpellsPair : List Node → ℕ → List ℕ × Datum → List ℕ → Type 0

@@ -2,13 +2,13 @@
 -- Offsets count from the first byte of the array or the map.
 -- This project's own rule: which of several faults is reported.
 use Rattle.std.specs.Prelude.{◌≡◌, ◌<◌, ◌⊎◌, ℕ, suc, ◌+◌, max, List, [], ◌∷◌, ◌++◌, length, Option, ℤ, pos}
-use Rattle.avro_bytes.specs.declared.fault.MalformedKind.TheVariants.{BadBlock}
-use Rattle.avro_bytes.specs.declared.meter.Meter.{Meter}
-use Rattle.avro_bytes.specs.BlockFault.{FaultyHead}
-use Rattle.avro_bytes.specs.Blocks.{AreBlocks, IsHead, IsSizedHead, joined}
-use Rattle.avro_bytes.specs.Meter.{Counts, OpensItem, RefusesItem}
-use Rattle.avro_bytes.specs.Decoding.{Defect, Malformed}
-use Rattle.avro_bytes.specs.Fault.{shifted}
+use Rattle.spec_avro.specs.declared.malformed.MalformedKind.TheVariants.{BadBlock}
+use Rattle.spec_avro.specs.declared.meter.Meter.{Meter}
+use Rattle.spec_avro.specs.BlockFault.{FaultyHead}
+use Rattle.spec_avro.specs.Blocks.{AreBlocks, IsHead, IsSizedHead, joined}
+use Rattle.spec_avro.specs.Meter.{Counts, OpensItem, RefusesItem}
+use Rattle.spec_avro.specs.Defect.{Defect, Malformed}
+use Rattle.spec_avro.specs.Fault.{shifted}
 
 -- each list of bytes spells one of the values
 abbrev pub SpellEach : {A : Type 0} → (A → List ℕ → Type 0) → List A → List (List ℕ) → Type 0

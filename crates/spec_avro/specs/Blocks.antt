@@ -1,6 +1,6 @@
 -- Blocks (Avro 1.11, "Binary Encoding", arrays and maps): items, each spelled in bytes, in blocks after their counts.
 use Rattle.std.specs.Prelude.{◌≡◌, ◌<◌, ℕ, List, [], ◌∷◌, ◌++◌, length, Option, Some, None, ℤ, pos, neg_ℤ}
-use Rattle.avro_bytes.specs.Number.{IsNumber64}
+use Rattle.spec_avro.specs.Number.{IsNumber64}
 
 -- one list after another
 abbrev pub joined : {A : Type 0} → List (List A) → List A

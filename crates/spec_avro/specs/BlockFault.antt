@@ -1,12 +1,12 @@
 -- The first fault where a block or the end of the blocks should begin (Avro 1.11, "Binary Encoding", arrays and maps).
 -- This project's own rule: which of several faults is reported.
 use Rattle.std.specs.Prelude.{◌≡◌, ◌⊎◌, ℕ, suc, List, ◌++◌, length, Option, ℤ, negsuc}
-use Rattle.avro_bytes.specs.declared.meter.Meter.{Meter}
-use Rattle.avro_bytes.specs.Blocks.{IsHead}
-use Rattle.avro_bytes.specs.Decoding.{Defect}
-use Rattle.avro_bytes.specs.Fault.{FaultyNumber, shifted}
-use Rattle.avro_bytes.specs.Meter.{RefusesItem}
-use Rattle.avro_bytes.specs.Number.{IsNumber64, long_limit}
+use Rattle.spec_avro.specs.declared.meter.Meter.{Meter}
+use Rattle.spec_avro.specs.Blocks.{IsHead}
+use Rattle.spec_avro.specs.Defect.{Defect}
+use Rattle.spec_avro.specs.Fault.{FaultyNumber, shifted}
+use Rattle.spec_avro.specs.Meter.{RefusesItem}
+use Rattle.spec_avro.specs.Number.{IsNumber64, long_limit}
 
 -- the bytes before the first item of a block, whatever size they say
 abbrev pub BeginsBlock : List ℕ → Type 0

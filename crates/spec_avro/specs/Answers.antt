@@ -1,13 +1,13 @@
 -- What resolution makes of data that are of a writer's node (Avro 1.11, "Schema Resolution"), and what is answered.
 use Rattle.std.specs.Prelude.{◌≡◌, ℕ, List, Ok}
-use Rattle.avro_types.specs.Node.{Node}
-use Rattle.avro_types.specs.Datum.{Datum}
-use Rattle.avro_types.specs.Conforming.{Conforms}
-use Rattle.avro_datum.specs.Payload.{IsPayload}
-use Rattle.avro_datum.specs.Spelling.{Spells}
-use Rattle.avro_bytes.specs.Outcome.{Done}
-use Rattle.resolver.specs.Outcome.{IsOutcome}
-use Rattle.resolver.specs.Resolution.{resolved}
+use Rattle.spec_avro.specs.Node.{Node}
+use Rattle.spec_avro.specs.Datum.{Datum}
+use Rattle.spec_avro.specs.Conforming.{Conforms}
+use Rattle.spec_avro.specs.Payload.{IsPayload}
+use Rattle.spec_avro.specs.Spelling.{Spells}
+use Rattle.spec_avro.specs.Outcome.{Done}
+use Rattle.spec_avro.specs.PayloadOutcome.{IsOutcome}
+use Rattle.spec_avro.specs.Resolution.{resolved}
 
 -- what comes of a writer's datum is a datum of the reader's
 abbrev pub ResolutionIsWhole : List Node → List Node → Type 0

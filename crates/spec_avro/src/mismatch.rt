@@ -1,5 +1,7 @@
 //! Why a datum does not become one of the reader's.
 
+ghost use Rattle.std.specs.Prelude.{◌≡◌};
+
 /// Why a writer's datum does not become one of the reader's.
 #[derive(Clone, Copy, Debug, PartialEq, Eq)]
 pub enum MismatchKind {
@@ -16,8 +18,7 @@ pub enum MismatchKind {
 }
 
 impl MismatchKind {
-    ghost use Rattle.std.specs.Prelude.{◌≡◌};
-    ghost use Rattle.avro_bytes.specs.MismatchKind.{code_of, name_of};
+    ghost use Rattle.spec_avro.specs.MismatchKind.{code_of, name_of};
 
     /// Returns its number, by which images write it and by which it is looked up.
     pub fn code(self) -> u8

@@ -1,15 +1,15 @@
 -- Which bytes spell a datum of a node (Avro 1.11, "Binary Encoding"), and which data are within the limits.
 use Rattle.std.specs.Prelude.{◌≡◌, ◌≤◌, ℕ, ◌+◌, max, List, [], ◌∷◌, ◌++◌, length, Option, Some, slice_get, false}
-use Rattle.avro_bytes.specs.declared.limits.TheConstants.{MOST_DEPTH, MOST_UNITS}
-use Rattle.avro_bytes.specs.Blob.{IsBlob, IsFixed}
-use Rattle.avro_bytes.specs.Blocks.{IsItems}
-use Rattle.avro_bytes.specs.Boolean.{IsBoolean}
-use Rattle.avro_bytes.specs.Number.{IsNumber32, IsNumber64}
-use Rattle.avro_bytes.specs.Text.{IsText}
-use Rattle.avro_types.specs.Node.{Node, Names, FieldNode, NullNode, BooleanNode, IntNode, LongNode, BytesNode, TextNode, FixedNode, EnumNode, ArrayNode, MapNode, UnionNode, RecordNode}
-use Rattle.avro_types.specs.WellFormed.{is_union}
-use Rattle.avro_types.specs.Datum.{Datum, Data, Pairs, NullDatum, BooleanDatum, IntDatum, LongDatum, BytesDatum, TextDatum, FixedDatum, EnumDatum, ArrayDatum, MapDatum, UnionDatum, RecordDatum, no_more, more, no_pairs, pair}
-use Rattle.avro_bytes.specs.Position.{SpellsPosition}
+use Rattle.spec_avro.specs.declared.limits.TheConstants.{MOST_DEPTH, MOST_UNITS}
+use Rattle.spec_avro.specs.Blob.{IsBlob, IsFixed}
+use Rattle.spec_avro.specs.Blocks.{IsItems}
+use Rattle.spec_avro.specs.Boolean.{IsBoolean}
+use Rattle.spec_avro.specs.Number.{IsNumber32, IsNumber64}
+use Rattle.spec_avro.specs.Text.{IsText}
+use Rattle.spec_avro.specs.Node.{Node, Names, FieldNode, NullNode, BooleanNode, IntNode, LongNode, BytesNode, TextNode, FixedNode, EnumNode, ArrayNode, MapNode, UnionNode, RecordNode}
+use Rattle.spec_avro.specs.WellFormed.{is_union}
+use Rattle.spec_avro.specs.Datum.{Datum, Data, Pairs, NullDatum, BooleanDatum, IntDatum, LongDatum, BytesDatum, TextDatum, FixedDatum, EnumDatum, ArrayDatum, MapDatum, UnionDatum, RecordDatum, no_more, more, no_pairs, pair}
+use Rattle.spec_avro.specs.Position.{SpellsPosition}
 
 abbrev mutual
   -- An enum is its symbol's position; a union its branch's position, then the branch's datum, and the branch is no

@@ -1,9 +1,9 @@
 -- Which nodes match, as a relation (Avro 1.11, "Schema Resolution": "To match, one of the following must hold").
 use Rattle.std.specs.Prelude.{◌≡◌, ◌↔◌, ℕ, true, List, Option, Some, slice_get}
-use Rattle.avro_types.specs.FullNames.{unqualified}
-use Rattle.avro_types.specs.Node.{Node, Names, FieldNode, NullNode, BooleanNode, IntNode, LongNode, BytesNode, TextNode, FixedNode, EnumNode, ArrayNode, MapNode, UnionNode, RecordNode}
-use Rattle.avro_types.specs.WellFormed.{IsWellFormed}
-use Rattle.resolver.specs.Matching.{matches}
+use Rattle.spec_avro.specs.FullNames.{unqualified}
+use Rattle.spec_avro.specs.Node.{Node, Names, FieldNode, NullNode, BooleanNode, IntNode, LongNode, BytesNode, TextNode, FixedNode, EnumNode, ArrayNode, MapNode, UnionNode, RecordNode}
+use Rattle.spec_avro.specs.WellFormed.{IsWellFormed}
+use Rattle.spec_avro.specs.Matching.{matches}
 
 -- the names of a writer's type and a reader's
 pub data NamesMatch (w r : Names) : Type 0 where

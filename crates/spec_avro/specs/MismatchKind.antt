@@ -1,7 +1,7 @@
 -- What can keep a datum from its reader: its names and numbers. All of this is this project's own.
 use Rattle.std.specs.Prelude.{ℕ, List, codes}
-use Rattle.avro_bytes.specs.declared.mismatch.MismatchKind.{MismatchKind}
-use Rattle.avro_bytes.specs.declared.mismatch.MismatchKind.TheVariants as kinds
+use Rattle.spec_avro.specs.declared.mismatch.MismatchKind.{MismatchKind}
+use Rattle.spec_avro.specs.declared.mismatch.MismatchKind.TheVariants as kinds
 
 abbrev pub name_of : MismatchKind → List ℕ
 name_of kinds.NoMatch = codes "NoMatch"

@@ -1,7 +1,7 @@
 -- The names of what can be wrong with bytes.
 use Rattle.std.specs.Prelude.{ℕ, List, codes}
-use Rattle.avro_bytes.specs.declared.fault.MalformedKind.{MalformedKind}
-use Rattle.avro_bytes.specs.declared.fault.MalformedKind.TheVariants as kinds
+use Rattle.spec_avro.specs.declared.malformed.MalformedKind.{MalformedKind}
+use Rattle.spec_avro.specs.declared.malformed.MalformedKind.TheVariants as kinds
 
 abbrev pub name_of : MalformedKind → List ℕ
 name_of kinds.BadNumber = codes "BadNumber"

@@ -1,8 +1,8 @@
 -- Which data can be written (Avro 1.11, "Binary Encoding": bytes and string; arrays and maps).
 use Rattle.std.specs.Prelude.{ℕ}
-use Rattle.avro_bytes.specs.declared.limits.TheConstants.{MOST_CONTENT}
-use Rattle.avro_types.specs.Datum.{Datum, Data, Pairs}
-use Rattle.avro_types.specs.Sizes.{HasSizesWithin, HaveSizesWithin, HavePairsWithin}
+use Rattle.spec_avro.specs.declared.limits.TheConstants.{MOST_CONTENT}
+use Rattle.spec_avro.specs.Datum.{Datum, Data, Pairs}
+use Rattle.spec_avro.specs.Sizes.{HasSizesWithin, HaveSizesWithin, HavePairsWithin}
 
 -- as many items as a long can count: 2^63 - 1
 abbrev pub most_items : ℕ

@@ -1,0 +1,20 @@
+//! What is promised.
+//!
+//! What is promised of bytes, data and resolution: definitions in `specs/`, and here the limits and the plain types that
+//! they speak of, with tables of names and numbers. It imports std alone.
+#![tactic(auto)]
+
+mod limits;
+mod malformed;
+mod meter;
+mod mismatch;
+mod place;
+
+pub use limits::{
+    INT_BYTES, INT_LAST, LONG_BYTES, LONG_LAST, MOST_CONTENT, MOST_DEPTH, MOST_FIELDS, MOST_FIXED,
+    MOST_NODES, MOST_OUTPUT, MOST_PAYLOAD, MOST_SYMBOLS, MOST_TEXT, MOST_UNITS,
+};
+pub use malformed::MalformedKind;
+pub use meter::Meter;
+pub use mismatch::{Mismatch, MismatchKind};
+pub use place::{Destination, Partner, Route};
