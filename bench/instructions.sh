@@ -120,6 +120,7 @@ turned = record("Linked", ("name", "string"), ("id", "long"), ("ok", "boolean"),
 value = record("Value", ("v", ["null", "boolean", "long", "string", {"type": "array", "items": "Value"}, {"type": "map", "values": "Value"}]))
 rows = {"type": "array", "items": record("Row", ("id", "long"), ("name", "string"))}
 symbols = {"type": "enum", "name": "Symbol", "symbols": ["S%d" % i for i in range(250)]}
+turned_symbols = {**symbols, "symbols": symbols["symbols"][::-1]}
 inner = record("Inner", ("id", "long"), ("a", maybe), ("b", maybe), ("c", maybe))
 turned_inner = record("Inner", ("c", maybe), ("a", maybe), ("id", "long"), ("b", maybe))
 nested = lambda part: record("Outer", ("id", "long"), ("first", part), ("second", part["name"]))
@@ -139,6 +140,8 @@ WORKLOADS = [
     ("500 records in five blocks with sizes", rows, rows, blocks_message, 300),
     ("symbol at position 10", symbols, symbols, lambda: number(10), 10_000),
     ("symbol at position 200", symbols, symbols, lambda: number(200), 10_000),
+    ("symbol that moves from position 10", symbols, turned_symbols, lambda: number(10), 10_000),
+    ("symbol that moves from position 200", symbols, turned_symbols, lambda: number(200), 10_000),
     ("three unions in each of two records, turned", nested(inner), nested(turned_inner), nested_message, 3_000),
 ]
 
