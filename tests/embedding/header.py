@@ -130,7 +130,7 @@ def compare_structs():
 def compare_numbers():
     status = numbers("code_of", "embedding", "specs", "Status.antt")
     same("statuses", enum("status"), {"OK" if it == "DONE" else it: number for it, number in status.items()})
-    same("mismatches", enum("mismatch"), numbers("code_of", "outcome", "specs", "MismatchKind.antt"))
+    same("mismatches", enum("mismatch"), numbers("code_of", "spec_avro", "specs", "MismatchKind.antt"))
     same("malformed", enum("malformed"), numbers("malformed_code", "embedding", "specs", "Numbers.antt"))
     same("envelopes", enum("envelope"), numbers("envelope_code", "embedding", "specs", "Numbers.antt"))
     opening = ("embedding", "specs", "Opening.antt")
@@ -166,9 +166,9 @@ def compare_bindings():
 
 def compare_constants():
     for name, path, const in (
-        ("MOST_TEXT", ("avro_types", "src", "limits.rt"), "MOST_TEXT"),
-        ("MOST_PAYLOAD", ("outcome", "src", "limits.rt"), "MOST_PAYLOAD"),
-        ("MOST_OUTPUT", ("outcome", "src", "limits.rt"), "MOST_OUTPUT"),
+        ("MOST_TEXT", ("spec_avro", "src", "limits.rt"), "MOST_TEXT"),
+        ("MOST_PAYLOAD", ("spec_avro", "src", "limits.rt"), "MOST_PAYLOAD"),
+        ("MOST_OUTPUT", ("spec_avro", "src", "limits.rt"), "MOST_OUTPUT"),
         ("ENVELOPE_LENGTH", ("wire_frames", "src", "envelope.rt"), "PREFIX_LENGTH"),
     ):
         wanted = re.search(r"const %s: usize = ([\d_]+);" % const, text("crates", *path))[1].replace("_", "")

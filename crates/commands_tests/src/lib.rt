@@ -1,6 +1,6 @@
 //! Tests and bench; run by `rt ci`.
 //!
-//! Tests of `program_compiler`, `machine_plan`, `machine`, `command_sessions` and `commands` for what no row of
+//! Tests of `program_compiler`, `machine_plan`, `machine` and `commands` for what no row of
 //! `worked_rows` can show, in one crate over them, so that each library is proved once.
 #![tactic(auto)]
 

@@ -1,7 +1,7 @@
 //! Tests and bench; run by `rt ci`.
 //!
-//! Tests of the crates that keep commands and schemas in files: `line_journal`, `registry_store`, `journal_file`,
-//! `upstream_store` and `store_commands`, over bytes, over files in memory, and over real files whose disk stops.
+//! Tests of the crates that keep commands and schemas in files: `line_journal`, `registry_store`, `journal_file` and
+//! `store_commands`, over bytes, over files in memory, and over real files whose disk stops.
 #![tactic(auto)]
 
 #[cfg(test)]

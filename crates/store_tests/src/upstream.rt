@@ -1,4 +1,4 @@
-//! Tests of `upstream_store`, the store of an upstream registry's schemas, over a file in memory.
+//! Tests of `UpstreamStore`, the store of an upstream registry's schemas, over a file in memory.
 
 use crate::disks::file_of;
 use crate::same::same;

@@ -1,4 +1,4 @@
-//! Tests of `upstream_url`: URLs, and files of credentials.
+//! Tests of URLs, and of files of credentials.
 
 use crate::texts::same;
 use std::alloc::{AllocError, Global};
