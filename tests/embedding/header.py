@@ -169,7 +169,7 @@ def compare_constants():
         ("MOST_TEXT", ("spec_avro", "src", "limits.rt"), "MOST_TEXT"),
         ("MOST_PAYLOAD", ("spec_avro", "src", "limits.rt"), "MOST_PAYLOAD"),
         ("MOST_OUTPUT", ("spec_avro", "src", "limits.rt"), "MOST_OUTPUT"),
-        ("ENVELOPE_LENGTH", ("wire_frames", "src", "envelope.rt"), "PREFIX_LENGTH"),
+        ("ENVELOPE_LENGTH", ("spec_registry", "src", "envelope.rt"), "PREFIX_LENGTH"),
     ):
         wanted = re.search(r"const %s: usize = ([\d_]+);" % const, text("crates", *path))[1].replace("_", "")
         same(name, re.search(r"#define AVROGATE_%s (\d+)" % name, header)[1], wanted)

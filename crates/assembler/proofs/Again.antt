@@ -7,27 +7,29 @@ use Rattle.std.proofs.lemmas.List.{append-nil, length-append}
 use Rattle.hex.specs.Hex.{IsBytes, encode_lower}
 use Rattle.spec_avro.specs.MismatchKind as kinds
 use Rattle.spec_avro.specs.declared.mismatch.Mismatch.{Mismatch}
-use Rattle.isa.specs.declared.entry.Entry.{Entry}
-use Rattle.isa.specs.declared.instr.Instr.{Instr}
-use Rattle.isa.specs.declared.limits.TheConstants.{MOST_CONSTANT_BYTES, MOST_ENTRIES, MOST_INSTRS, MOST_TABLES}
-use Rattle.isa.specs.declared.program.ProgramError.{ProgramError}
-use Rattle.isa.specs.Judging.{judged}
-use Rattle.isa.specs.Lists.{total_length}
-use Rattle.isa.specs.Operation.{name_of, operand_of, operation_of, shape_of}
-use Rattle.isa.specs.declared.operation.Shape.{Shape}
-use Rattle.isa.specs.declared.operation.Shape.TheVariants as shapes
-use Rattle.isa.specs.Program.{Program}
-use Rattle.isa.specs.Range.{IsProgram}
+use Rattle.spec_machine.specs.declared.entry.Entry.{Entry}
+use Rattle.spec_machine.specs.declared.instr.Instr.{Instr}
+use Rattle.spec_machine.specs.declared.limits.TheConstants.{MOST_CONSTANT_BYTES, MOST_ENTRIES, MOST_INSTRS, MOST_TABLES}
+use Rattle.spec_machine.specs.declared.program_error.ProgramError.{ProgramError}
+use Rattle.spec_machine.specs.Judging.{judged}
+use Rattle.spec_machine.specs.Lengths.{total_length}
+use Rattle.spec_machine.specs.Operation.{name_of, operand_of, operation_of, shape_of}
+use Rattle.spec_machine.specs.declared.operation.Shape.{Shape}
+use Rattle.spec_machine.specs.declared.operation.Shape.TheVariants as shapes
+use Rattle.spec_machine.specs.Program.{Program}
+use Rattle.spec_machine.specs.Range.{IsProgram}
 use Rattle.isa.proofs.Judged.{complete}
-use Rattle.assembler.specs.declared.fault.AsmError.{AsmError}
-use Rattle.assembler.specs.declared.fault.AsmFault.{AsmFault}
-use Rattle.assembler.specs.Assembling.{◌>>=◌, Gives, assembled, fits_constant, fits_list, in_range, is_before_code, is_before_jumps, is_before_maps, is_before_misses, nothing, placed, with_constant, with_header, with_instr, with_jumps, with_lines, with_map, with_miss, with_words}
-use Rattle.assembler.specs.Listing.{constant_line, entry, instr_line, jumps_line, lines_from, listing_of, map_line, miss_line, number, operand}
-use Rattle.assembler.specs.Things.{constant_in, each_in, entry_in, instr_in, miss_in}
-use Rattle.assembler.specs.Words.{number_in, parts}
+use Rattle.spec_machine.specs.declared.listing_fault.AsmError.{AsmError}
+use Rattle.spec_machine.specs.declared.listing_fault.AsmFault.{AsmFault}
+use Rattle.spec_machine.specs.Assembling.{◌>>=◌, assembled, fits_constant, fits_list, in_range, is_before_code, is_before_jumps, is_before_maps, is_before_misses, nothing, placed, with_constant, with_header, with_instr, with_jumps, with_lines, with_map, with_miss, with_words}
+use Rattle.assembler.specs.Assembling.{Gives}
+use Rattle.spec_machine.specs.Listing.{constant_line, entry, instr_line, jumps_line, lines_from, listing_of, map_line, miss_line, number, operand}
+use Rattle.spec_machine.specs.ListingParts.{constant_in, each_in, entry_in, instr_in, miss_in}
+use Rattle.spec_machine.specs.ListingWords.{number_in, parts}
 use Rattle.assembler.proofs.Fit.{EntryFits, InstrFits, IsLow, MissFits, program_fits}
 use Rattle.assembler.proofs.Joined.{after}
-use Rattle.assembler.proofs.Numbers.{are_digits, model, number_again, tells}
+use Rattle.assembler.proofs.Numbers.{model, number_again, tells}
+use Rattle.assembler.specs.Laws.Plain.{are_digits}
 use Rattle.assembler.proofs.Taken.{ok_is}
 use Rattle.std.proofs.lemmas.Fmt.{digits_decimal}
 use Rattle.std.specs.Str.{bytes_eq}
@@ -35,6 +37,7 @@ use Rattle.assembler.proofs.Parted.{Above, AreWords, above_from_test, line_above
 use Rattle.assembler.proofs.Reading.{one_line, under_header}
 use Rattle.assembler.proofs.Totals.{total_more}
 use Rattle.assembler.proofs.Spelled.{constant_again, decimal_above, each_above, each_again, each_spelled, encoded_above, entry_above, entry_again, entry_spelled, entry_word, instr_above, instr_again, instr_words, miss_above, miss_again, miss_words, numbered_again, operand_words}
+use Rattle.isa.specs.Laws.Plain.{le_is, lt_is}
 
 -- ---- one line
 
@@ -86,12 +89,6 @@ module _ {A : Type 0} (line : ℕ → A → List ℕ) (size : Program → ℕ) (
 
 longer : {A : Type 0} (xs : List A) (x : A) → length (xs ++ x ∷ []) ≡ suc (length xs)
 longer xs x = omega (arith, length-append xs (x ∷ []))
-
-le_is : (a b : ℕ) → a ≤ b → nat_le a b ≡ true
-le_is a b h = grind arith
-
-lt_is : (a b : ℕ) → a < b → nat_lt a b ≡ true
-lt_is a b h = grind arith
 
 -- ---- constants
 

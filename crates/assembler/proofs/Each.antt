@@ -1,7 +1,7 @@
 -- Reading one word after the other, as a loop does.
 use Rattle.std.proofs.Common.{◌≡◌, ℕ, List, [], ◌∷◌, ◌++◌, Option, Some, None, refl, sym, ap, ◌∙◌, append_assoc}
 use Rattle.std.proofs.lemmas.List.{append-nil}
-use Rattle.assembler.specs.Things.{◌>>=◌, each_in}
+use Rattle.spec_machine.specs.ListingParts.{◌>>=◌, each_in}
 
 -- what was read before, and what is still read
 abbrev pub with_front : {A : Type 0} → List A → Option (List A) → Option (List A)

@@ -2,16 +2,17 @@
 use Rattle.std.proofs.Common.{ℕ, ◌^◌, ◌-◌, ◌<◌, List, [], ◌∷◌, ◌++◌, arith}
 use Rattle.std.specs.List.{AllByRecursion}
 use Rattle.spec_avro.specs.declared.mismatch.Mismatch.{Mismatch}
-use Rattle.isa.specs.declared.entry.Entry.{Entry}
-use Rattle.isa.specs.declared.entry.Entry.TheVariants as entries
-use Rattle.isa.specs.declared.instr.Instr.{Instr}
-use Rattle.isa.specs.declared.instr.Instr.TheVariants as op
-use Rattle.isa.specs.declared.operation.Shape.{Shape}
-use Rattle.isa.specs.declared.operation.Shape.TheVariants as shapes
-use Rattle.isa.specs.declared.range.Sizes.{Sizes}
-use Rattle.isa.specs.Operation.{operand_of, operation_of, shape_of}
-use Rattle.isa.specs.Program.{Program}
-use Rattle.isa.specs.Range.{EntryIsInRange, InstrIsInRange, IsAddress, IsProgram, MissIsInRange, sizes_of}
+use Rattle.spec_machine.specs.declared.entry.Entry.{Entry}
+use Rattle.spec_machine.specs.declared.entry.Entry.TheVariants as entries
+use Rattle.spec_machine.specs.declared.instr.Instr.{Instr}
+use Rattle.spec_machine.specs.declared.instr.Instr.TheVariants as op
+use Rattle.spec_machine.specs.declared.operation.Shape.{Shape}
+use Rattle.spec_machine.specs.declared.operation.Shape.TheVariants as shapes
+use Rattle.spec_machine.specs.declared.sizes.Sizes.{Sizes}
+use Rattle.spec_machine.specs.Operation.{operand_of, operation_of, shape_of}
+use Rattle.spec_machine.specs.Program.{Program}
+use Rattle.spec_machine.specs.Range.{EntryIsInRange, InstrIsInRange, IsAddress, IsProgram, MissIsInRange, sizes_of}
+use Rattle.avro_bytes.specs.Laws.Plain.{weaker}
 
 abbrev pub IsLow : ℕ → Type 0
 IsLow n = n < 2 ^ 32 - 1
@@ -42,10 +43,6 @@ pub record Fits (P : Program) : Type 0 where
 pub all_split : {A : Type 0} (F : A → Type 0) (xs : List A) (x : A) → AllByRecursion F (xs ++ x ∷ []) → AllByRecursion F xs × F x
 all_split F [] x h = (tt, h.0)
 all_split F (y ∷ xs) x h = let r = all_split F xs x h.1 in ((h.0, r.0), r.1)
-
-weaker : {A : Type 0} (Q F : A → Type 0) → ((x : A) → Q x → F x) → (xs : List A) → AllByRecursion Q xs → AllByRecursion F xs
-weaker Q F implies [] h = tt
-weaker Q F implies (x ∷ xs) h = (implies x h.0, weaker Q F implies xs h.1)
 
 -- how many there may be of what is named
 record AreFew (n : Sizes) : Type 0 where

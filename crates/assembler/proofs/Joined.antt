@@ -1,7 +1,7 @@
 -- The parts of a text, put together again.
 use Rattle.std.proofs.Common.{◌≡◌, ℕ, ◌<◌, nat_eq, cond, Bool, true, false, List, [], ◌∷◌, ◌++◌, length, refl, sym, ap, ◌∙◌, arith}
 use Rattle.std.proofs.lemmas.Bool.{eqb-true}
-use Rattle.assembler.specs.Words.{in_front, parts}
+use Rattle.spec_machine.specs.ListingWords.{in_front, parts}
 use Rattle.assembler.proofs.Parts.{some}
 
 module _ (s : ℕ) where

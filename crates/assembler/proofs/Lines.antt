@@ -1,7 +1,7 @@
 -- One line more comes after the others.
 use Rattle.std.proofs.Common.{◌≡◌, ℕ, zero, suc, ◌+◌, List, [], ◌∷◌, ◌++◌, take, Some, sym, ap, ◌∙◌, append_assoc, add-one, arith, slice_get}
 use Rattle.std.proofs.lemmas.List.{append-nil}
-use Rattle.assembler.specs.Listing.{lines, lines_from}
+use Rattle.spec_machine.specs.Listing.{lines, lines_from}
 
 module _ {A : Type 0} (line : ℕ → A → List ℕ) where
   taken : (k i : ℕ) (xs : List A) (x : A) → slice_get xs i ≡ Some x → lines_from line k (take (suc i) xs) ≡ lines_from line k (take i xs) ++ line (i + k) x

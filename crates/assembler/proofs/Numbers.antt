@@ -10,14 +10,9 @@ use Rattle.std.proofs.lemmas.Fmt.{decimal_digit, decimal-digits_value, decimal_n
 use Rattle.std.proofs.lemmas.Int.Digits.{digits_value_more}
 use Rattle.std.proofs.lemmas.Str.{digit_value_digit}
 use Rattle.std.proofs.lemmas.Str.Parse.{IsDigitsTest, IsNumeralModel, digit_at, numerals_by_value}
-use Rattle.assembler.specs.Words.{is_numeral, most_number, number_in, value_of}
-
-pub both : (a b : Bool) → (a && b) ≡ true → (a ≡ true) × (b ≡ true)
-both true b e = (refl, e)
-both false b e = absurd cc
-
-abbrev pub are_digits : List ℕ → Type 0
-are_digits ds = list_all is_ascii_digit ds ≡ true
+use Rattle.spec_machine.specs.ListingWords.{is_numeral, most_number, number_in, value_of}
+use Rattle.avro_bytes.specs.Laws.Plain.{both}
+use Rattle.assembler.specs.Laws.Plain.{are_digits}
 
 pub tells : IsDigitsTest are_digits
 tells = record {

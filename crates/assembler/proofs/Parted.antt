@@ -2,9 +2,10 @@
 use Rattle.std.proofs.Common.{◌≡◌, ℕ, ◌<◌, ◌≤◌, nat_eq, nat_lt, true, false, List, [], ◌∷◌, ◌++◌, refl, ap, ◌∙◌, arith}
 use Rattle.std.specs.List.{AllByRecursion, list_all}
 use Rattle.std.proofs.lemmas.List.{append-nil}
-use Rattle.assembler.specs.Words.{in_front, parts, words}
+use Rattle.spec_machine.specs.ListingWords.{in_front, parts, words}
 use Rattle.assembler.proofs.Joined.{after}
-use Rattle.assembler.proofs.Numbers.{both}
+use Rattle.avro_bytes.specs.Laws.Plain.{both}
+use Rattle.isa.specs.Laws.Plain.{is_lt}
 
 -- each byte is above a number
 abbrev pub Above : ℕ → List ℕ → Type 0
@@ -17,9 +18,6 @@ above_append m (x ∷ xs) ys h g = (h.0, above_append m xs ys h.1 g)
 pub above_less : (k m : ℕ) (xs : List ℕ) → k ≤ m → Above m xs → Above k xs
 above_less k m [] le h = tt
 above_less k m (x ∷ xs) le h = (omega (arith, le, h.0), above_less k m xs le h.1)
-
-pub is_lt : (a b : ℕ) → nat_lt a b ≡ true → a < b
-is_lt a b h = grind arith
 
 pub above_from_test : (m : ℕ) (xs : List ℕ) → list_all (λ b. nat_lt m b) xs ≡ true → Above m xs
 above_from_test m [] e = tt

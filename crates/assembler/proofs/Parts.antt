@@ -1,11 +1,8 @@
 -- How the first separator splits a text.
 use Rattle.std.proofs.Common.{◌≡◌, ℕ, zero, suc, ◌+◌, ◌<◌, nat_eq, cond, Bool, true, false, List, [], ◌∷◌, length, take, drop, get_or, refl, add-one, arith}
 use Rattle.std.proofs.lemmas.List.{drop_all}
-use Rattle.assembler.specs.Words.{in_front, later, parts, words}
-
-not_true : (b : Bool) → (b ≡ true → ⊥) → b ≡ false
-not_true true h = absurd (h refl)
-not_true false h = refl
+use Rattle.spec_machine.specs.ListingWords.{in_front, later, parts, words}
+use Rattle.std.proofs.lemmas.Bool.{false_from_ne_true as not_true}
 
 head : (ps : List (List ℕ)) → 0 < length ps → (part : List ℕ) × (others : List (List ℕ)) × (ps ≡ part ∷ others)
 head [] h = absurd (omega arith)

@@ -5,15 +5,16 @@ use Rattle.std.specs.Option.{option_or}
 use Rattle.std.proofs.lemmas.List.Quantifiers.{position-Some}
 use Rattle.spec_avro.specs.declared.mismatch.Mismatch.{Mismatch}
 use Rattle.spec_avro.specs.declared.mismatch.MismatchKind.TheVariants.{NoMatch}
-use Rattle.isa.specs.declared.instr.Instr.TheVariants.{Bool as Boolean}
-use Rattle.isa.specs.declared.entry.Entry.TheVariants.{Position}
-use Rattle.isa.specs.declared.program.ProgramError.{ProgramError}
-use Rattle.isa.specs.declared.program.ProgramError.TheVariants as wrong
-use Rattle.isa.specs.Program.{Program}
-use Rattle.isa.specs.Judging.{address_out_of_range, at_list, entry_out_of_range, first_empty, first_error, first_out, first_out_from, first_out_of_range, instr_out_of_range, is_within_limits, judged, miss_out_of_range}
-use Rattle.isa.specs.Range.{sizes_of}
-use Rattle.assembler.specs.declared.fault.AsmFault.{AsmFault}
-use Rattle.assembler.specs.Assembling.{fault_of, in_range, index_of, line_of_code}
+use Rattle.spec_machine.specs.declared.instr.Instr.TheVariants.{Bool as Boolean}
+use Rattle.spec_machine.specs.declared.entry.Entry.TheVariants.{Position}
+use Rattle.spec_machine.specs.declared.program_error.ProgramError.{ProgramError}
+use Rattle.spec_machine.specs.declared.program_error.ProgramError.TheVariants as wrong
+use Rattle.spec_machine.specs.Program.{Program}
+use Rattle.spec_machine.specs.Judging.{address_out_of_range, at_list, entry_out_of_range, first_empty, first_error, first_out, first_out_from, first_out_of_range, instr_out_of_range, is_within_limits, judged, miss_out_of_range}
+use Rattle.spec_machine.specs.Range.{sizes_of}
+use Rattle.spec_machine.specs.declared.listing_fault.AsmFault.{AsmFault}
+use Rattle.spec_machine.specs.Assembling.{fault_of, in_range, line_of_code}
+use Rattle.assembler.specs.Assembling.{index_of}
 use Rattle.assembler.specs.Draft.{IsDraft}
 
 abbrev IsSmall : ProgramError → Type 0

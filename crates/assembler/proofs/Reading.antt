@@ -1,14 +1,15 @@
 -- Reading one line after the other, as a loop does.
 use Rattle.std.proofs.Common.{◌≡◌, ℕ, ◌+◌, List, [], ◌∷◌, length, cond, eqb, true, false, Result, Ok, Err, refl, sym, ap, ◌∙◌, add-one}
-use Rattle.isa.specs.Program.{Program}
-use Rattle.assembler.specs.declared.fault.AsmError.{AsmError}
-use Rattle.assembler.specs.declared.fault.AsmError.TheVariants as errors
-use Rattle.assembler.specs.declared.fault.AsmErrorKind.TheVariants.{BadHeader, BadLine}
-use Rattle.assembler.specs.declared.fault.AsmFault.{AsmFault}
+use Rattle.spec_machine.specs.Program.{Program}
+use Rattle.spec_machine.specs.declared.listing_fault.AsmError.{AsmError}
+use Rattle.spec_machine.specs.declared.listing_fault.AsmError.TheVariants as errors
+use Rattle.spec_machine.specs.declared.listing_fault.AsmErrorKind.TheVariants.{BadHeader, BadLine}
+use Rattle.spec_machine.specs.declared.listing_fault.AsmFault.{AsmFault}
 use Rattle.std.specs.Prelude.{codes}
 use Rattle.std.specs.Str.{bytes_eq}
-use Rattle.assembler.specs.Assembling.{◌>>=◌, Fails, after_header, fault, nothing, with_header, with_lines, with_words}
-use Rattle.assembler.specs.Words.{parts, words}
+use Rattle.spec_machine.specs.Assembling.{◌>>=◌, after_header, fault, nothing, with_header, with_lines, with_words}
+use Rattle.assembler.specs.Assembling.{Fails}
+use Rattle.spec_machine.specs.ListingWords.{parts, words}
 use Rattle.assembler.proofs.Parts.{parts_some}
 
 pub one_line : (at : ℕ) (P : Program) (line rest : List ℕ)

@@ -12,22 +12,23 @@ use Rattle.hex.specs.Hex.{decode_of, encode_lower}
 use Rattle.spec_avro.specs.MismatchKind as kinds
 use Rattle.spec_avro.specs.declared.mismatch.Mismatch.{Mismatch}
 use Rattle.spec_avro.specs.declared.mismatch.MismatchKind.{MismatchKind}
-use Rattle.isa.specs.declared.entry.Entry.{Entry}
-use Rattle.isa.specs.declared.entry.Entry.TheVariants as entries
-use Rattle.isa.specs.declared.instr.Instr.{Instr}
-use Rattle.isa.specs.declared.operation.Operation.{Operation}
-use Rattle.isa.specs.declared.operation.Operation.TheVariants as op
-use Rattle.isa.specs.declared.operation.Shape.{Shape}
-use Rattle.isa.specs.declared.operation.Shape.TheVariants as shapes
-use Rattle.isa.specs.Operation.{instr_of, name_of, operand_of, operation_of, shape_of}
-use Rattle.isa.specs.declared.operation.TheConstants.{OPERATIONS}
-use Rattle.assembler.specs.declared.words.TheConstants.{KINDS}
-use Rattle.assembler.specs.Listing.{entry, number, operand}
-use Rattle.assembler.specs.Things.{◌>>=◌, at_end, bytes_in, constant_in, each_in, entry_in, first_number, instr_in, miss_in, numbered, operand_in, spelled_so}
-use Rattle.assembler.specs.Words.{kind_named, number_in, operation_named}
+use Rattle.spec_machine.specs.declared.entry.Entry.{Entry}
+use Rattle.spec_machine.specs.declared.entry.Entry.TheVariants as entries
+use Rattle.spec_machine.specs.declared.instr.Instr.{Instr}
+use Rattle.spec_machine.specs.declared.operation.Operation.{Operation}
+use Rattle.spec_machine.specs.declared.operation.Operation.TheVariants as op
+use Rattle.spec_machine.specs.declared.operation.Shape.{Shape}
+use Rattle.spec_machine.specs.declared.operation.Shape.TheVariants as shapes
+use Rattle.spec_machine.specs.Operation.{instr_of, name_of, operand_of, operation_of, shape_of}
+use Rattle.spec_machine.specs.declared.operation.TheConstants.{OPERATIONS}
+use Rattle.spec_machine.specs.declared.miss_kinds.TheConstants.{KINDS}
+use Rattle.spec_machine.specs.Listing.{entry, number, operand}
+use Rattle.spec_machine.specs.ListingParts.{◌>>=◌, at_end, bytes_in, constant_in, each_in, entry_in, first_number, instr_in, miss_in, numbered, operand_in, spelled_so}
+use Rattle.spec_machine.specs.ListingWords.{kind_named, number_in, operation_named}
 use Rattle.assembler.proofs.Fit.{EntryFits, InstrFits, IsLow, MissFits, OperandFits}
 use Rattle.assembler.proofs.Joined.{after}
-use Rattle.assembler.proofs.Numbers.{both, number_taken}
+use Rattle.assembler.proofs.Numbers.{number_taken}
+use Rattle.avro_bytes.specs.Laws.Plain.{both}
 
 pub bind_some : {A B : Type 0} (o : Option A) (f : A → Option B) (y : B) → (o >>= f) ≡ Some y → (x : A) × (o ≡ Some x) × (f x ≡ Some y)
 bind_some (Some x) f y e = (x, refl, e)

@@ -16,22 +16,24 @@ use Rattle.spec_avro.specs.MismatchKind as kinds
 use Rattle.spec_avro.specs.declared.mismatch.Mismatch.{Mismatch}
 use Rattle.spec_avro.specs.declared.mismatch.MismatchKind.{MismatchKind}
 use Rattle.spec_avro.specs.declared.mismatch.MismatchKind.TheVariants as kind
-use Rattle.isa.specs.declared.entry.Entry.{Entry}
-use Rattle.isa.specs.declared.entry.Entry.TheVariants as entries
-use Rattle.isa.specs.declared.instr.Instr.{Instr}
-use Rattle.isa.specs.declared.instr.Instr.TheVariants as instrs
-use Rattle.isa.specs.declared.operation.Operation.{Operation}
-use Rattle.isa.specs.declared.operation.Operation.TheVariants as op
-use Rattle.isa.specs.declared.operation.Shape.{Shape}
-use Rattle.isa.specs.declared.operation.Shape.TheVariants as shapes
-use Rattle.isa.specs.Operation.{instr_of, name_of, operand_of, operation_of, shape_of}
+use Rattle.spec_machine.specs.declared.entry.Entry.{Entry}
+use Rattle.spec_machine.specs.declared.entry.Entry.TheVariants as entries
+use Rattle.spec_machine.specs.declared.instr.Instr.{Instr}
+use Rattle.spec_machine.specs.declared.instr.Instr.TheVariants as instrs
+use Rattle.spec_machine.specs.declared.operation.Operation.{Operation}
+use Rattle.spec_machine.specs.declared.operation.Operation.TheVariants as op
+use Rattle.spec_machine.specs.declared.operation.Shape.{Shape}
+use Rattle.spec_machine.specs.declared.operation.Shape.TheVariants as shapes
+use Rattle.spec_machine.specs.Operation.{instr_of, name_of, operand_of, operation_of, shape_of}
 use Rattle.isa.proofs.Operations as operations
-use Rattle.assembler.specs.Listing.{entry}
-use Rattle.assembler.specs.Things.{◌>>=◌, at_end, bytes_in, constant_in, each_in, entry_in, first_number, instr_in, miss_in, numbered, operand_in, spelled_so}
-use Rattle.assembler.specs.Words.{kind_named, number_in, operation_named}
+use Rattle.spec_machine.specs.Listing.{entry}
+use Rattle.spec_machine.specs.ListingParts.{◌>>=◌, at_end, bytes_in, constant_in, each_in, entry_in, first_number, instr_in, miss_in, numbered, operand_in, spelled_so}
+use Rattle.spec_machine.specs.ListingWords.{kind_named, number_in, operation_named}
 use Rattle.assembler.proofs.Fit.{EntryFits, InstrFits, IsLow, MissFits, OperandFits}
 use Rattle.assembler.proofs.Joined.{after}
-use Rattle.assembler.proofs.Numbers.{are_digits, both, model, number_again, tells}
+use Rattle.assembler.proofs.Numbers.{model, number_again, tells}
+use Rattle.assembler.specs.Laws.Plain.{are_digits}
+use Rattle.avro_bytes.specs.Laws.Plain.{both}
 use Rattle.assembler.proofs.Parted.{Above, AreWords, above_from_test}
 
 -- ---- numbers

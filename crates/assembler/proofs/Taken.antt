@@ -9,18 +9,18 @@ use Rattle.std.proofs.lemmas.List.{append-nil}
 use Rattle.hex.specs.Hex.{encode_lower}
 use Rattle.spec_avro.specs.MismatchKind as kinds
 use Rattle.spec_avro.specs.declared.mismatch.Mismatch.{Mismatch}
-use Rattle.isa.specs.declared.entry.Entry.{Entry}
-use Rattle.isa.specs.declared.limits.TheConstants.{MOST_INSTRS, MOST_TABLES}
-use Rattle.isa.specs.Program.{Program}
-use Rattle.assembler.specs.declared.fault.AsmErrorKind.TheVariants.{BadIndex, BadLine, TooLarge}
-use Rattle.assembler.specs.declared.fault.AsmFault.{AsmFault}
-use Rattle.assembler.specs.Assembling.{◌>>=◌, checked, fault, fits_constant, fits_list, is_before_code, is_before_jumps, is_before_maps, is_before_misses, placed, with_constant, with_instr, with_jumps, with_lines, with_map, with_miss, with_words}
-use Rattle.assembler.specs.Listing.{constant_line, entry, instr_line, jumps_line, lines, lines_from, listing_of, map_line, miss_line, number}
-use Rattle.assembler.specs.Things.{Numbered, constant_in, each_in, entry_in, instr_in, miss_in, numbered}
-use Rattle.assembler.specs.Words.{number_in, words}
+use Rattle.spec_machine.specs.declared.entry.Entry.{Entry}
+use Rattle.spec_machine.specs.declared.limits.TheConstants.{MOST_INSTRS, MOST_TABLES}
+use Rattle.spec_machine.specs.Program.{Program}
+use Rattle.spec_machine.specs.declared.listing_fault.AsmErrorKind.TheVariants.{BadIndex, BadLine, TooLarge}
+use Rattle.spec_machine.specs.declared.listing_fault.AsmFault.{AsmFault}
+use Rattle.spec_machine.specs.Assembling.{◌>>=◌, checked, fault, fits_constant, fits_list, is_before_code, is_before_jumps, is_before_maps, is_before_misses, placed, with_constant, with_instr, with_jumps, with_lines, with_map, with_miss, with_words}
+use Rattle.spec_machine.specs.Listing.{constant_line, entry, instr_line, jumps_line, lines, lines_from, listing_of, map_line, miss_line, number}
+use Rattle.spec_machine.specs.ListingParts.{Numbered, constant_in, each_in, entry_in, instr_in, miss_in, numbered}
+use Rattle.spec_machine.specs.ListingWords.{number_in, words}
 use Rattle.assembler.proofs.Fit.{EntryFits, Fits, InstrFits, IsLow, MissFits, all_split}
 use Rattle.assembler.proofs.Joined.{after, joined, joined_parts}
-use Rattle.assembler.proofs.Numbers.{both}
+use Rattle.avro_bytes.specs.Laws.Plain.{both}
 use Rattle.assembler.proofs.Said.{address_taken, constant_taken, each_taken, entry_taken, instr_taken, miss_taken, numbered_taken, same_bytes, tail_of}
 
 pub bind_ok : {A B : Type 0} (r : Result A AsmFault) (f : A → Result B AsmFault) (y : B) → (r >>= f) ≡ Ok y → (x : A) × (r ≡ Ok x) × (f x ≡ Ok y)

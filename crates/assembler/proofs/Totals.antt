@@ -1,9 +1,9 @@
 -- How many bytes constants have with one more.
 use Rattle.std.proofs.Common.{◌≡◌, ℕ, ◌+◌, ◌-◌, ◌≤◌, ◌<◌, List, [], ◌∷◌, ◌++◌, length, arith, subst, sym}
 use Rattle.std.proofs.lemmas.List.{length-append}
-use Rattle.isa.specs.declared.limits.TheConstants.{MOST_TABLES}
-use Rattle.isa.specs.Lists.{total_length}
-use Rattle.isa.specs.Program.{Program}
+use Rattle.spec_machine.specs.declared.limits.TheConstants.{MOST_TABLES}
+use Rattle.spec_machine.specs.Lengths.{total_length}
+use Rattle.spec_machine.specs.Program.{Program}
 use Rattle.assembler.specs.Draft.{IsDraft}
 
 pub total_more : {A : Type 0} (lists : List (List A)) (list : List A) → total_length (lists ++ list ∷ []) ≡ total_length lists + length list

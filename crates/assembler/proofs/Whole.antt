@@ -2,16 +2,17 @@
 use Rattle.std.proofs.Common.{◌≡◌, ℕ, cond, Bool, true, false, List, [], ◌∷◌, ◌++◌, Option, Some, None, Result, Ok, Err, refl, sym, ap, subst, ◌∙◌}
 use Rattle.std.specs.Prelude.{codes, IfOk}
 use Rattle.std.specs.Str.{bytes_eq}
-use Rattle.isa.specs.declared.program.ProgramError.{ProgramError}
-use Rattle.isa.specs.Judging.{first_error, judged}
-use Rattle.isa.specs.Program.{Program}
-use Rattle.isa.specs.Range.{IsProgram}
+use Rattle.spec_machine.specs.declared.program_error.ProgramError.{ProgramError}
+use Rattle.spec_machine.specs.Judging.{first_error, judged}
+use Rattle.spec_machine.specs.Program.{Program}
+use Rattle.spec_machine.specs.Range.{IsProgram}
 use Rattle.isa.proofs.Judged.{sound}
-use Rattle.assembler.specs.declared.fault.AsmError.{AsmError}
-use Rattle.assembler.specs.declared.fault.AsmErrorKind.TheVariants.{BadHeader}
-use Rattle.assembler.specs.Assembling.{Gives, after_header, assembled, fault, in_range, nothing, with_header}
-use Rattle.assembler.specs.Listing.{listing_of}
-use Rattle.assembler.specs.Words.{parts}
+use Rattle.spec_machine.specs.declared.listing_fault.AsmError.{AsmError}
+use Rattle.spec_machine.specs.declared.listing_fault.AsmErrorKind.TheVariants.{BadHeader}
+use Rattle.assembler.specs.Assembling.{Gives}
+use Rattle.spec_machine.specs.Assembling.{after_header, assembled, fault, in_range, nothing, with_header}
+use Rattle.spec_machine.specs.Listing.{listing_of}
+use Rattle.spec_machine.specs.ListingWords.{parts}
 use Rattle.assembler.proofs.Fit.{Fits, program_fits}
 use Rattle.assembler.proofs.Joined.{joined, joined_parts}
 use Rattle.assembler.proofs.Said.{same_bytes}

@@ -1,10 +1,10 @@
 -- What is read of a listing so far: a program that is not judged yet. All of this is this project's own.
 use Rattle.std.specs.Prelude.{◌≡◌, ℕ, ◌+◌, ◌≤◌, length}
-use Rattle.isa.specs.declared.limits.TheConstants.{MOST_CONSTANT_BYTES, MOST_INSTRS, MOST_TABLES}
-use Rattle.isa.specs.Lists.{total_length}
-use Rattle.isa.specs.Program.{Program}
+use Rattle.spec_machine.specs.declared.limits.TheConstants.{MOST_CONSTANT_BYTES, MOST_INSTRS, MOST_TABLES}
+use Rattle.spec_machine.specs.Lengths.{total_length}
+use Rattle.spec_machine.specs.Program.{Program}
 use Rattle.assembler.specs.declared.draft.FirstLines.{FirstLines}
-use Rattle.assembler.specs.Assembling.{line_of_code, line_of_jumps, line_of_map, line_of_miss}
+use Rattle.spec_machine.specs.Assembling.{line_of_code, line_of_jumps, line_of_map, line_of_miss}
 
 -- how many bytes more the constants may have, and that all else is within the limits
 pub record IsDraft (P : Program) (room : ℕ) : Type 0 where

@@ -1,5 +1,4 @@
 pub mod Listing
-pub mod Things
 pub mod Assembling
 pub mod Draft
-pub mod Words
+pub mod Laws

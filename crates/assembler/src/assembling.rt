@@ -1,16 +1,18 @@
 //! Reading a listing line by line into a program, or its first fault.
 
 ghost use Rattle.std.specs.Prelude.{◌≡◌, IfOk, Ok};
-ghost use Rattle.isa.specs.Program.{Program as Parted};
-ghost use Rattle.isa.specs.Range.{IsProgram};
-ghost use Rattle.assembler.specs.Assembling.{Gives, assembled, nothing, with_header, with_lines};
-ghost use Rattle.assembler.specs.Listing.{HasBytes, listing_of};
-ghost use Rattle.assembler.specs.Words.{parts};
+ghost use Rattle.spec_machine.specs.Program.{Program as Parted};
+ghost use Rattle.spec_machine.specs.Range.{IsProgram};
+ghost use Rattle.assembler.specs.Assembling.{Gives};
+ghost use Rattle.spec_machine.specs.Assembling.{assembled, nothing, with_header, with_lines};
+ghost use Rattle.assembler.specs.Listing.{HasBytes};
+ghost use Rattle.spec_machine.specs.Listing.{listing_of};
+ghost use Rattle.spec_machine.specs.ListingWords.{parts};
 
 use crate::draft::{Draft, fault};
-use crate::fault::{AsmError, AsmErrorKind};
 use crate::{is_text, split_line};
 use isa::Program;
+use spec_machine::{AsmError, AsmErrorKind};
 use std::alloc::Global;
 
 /// Takes the lines after the header into the draft, up to the first fault.
@@ -32,7 +34,7 @@ fn take_lines(draft: &mut Draft, alloc: Global, text: &[u8]) -> Result<(), AsmEr
 }
 
 /// Takes a whole listing into the draft, up to the first fault.
-#[tactic(auto, unfolding(crate::specs::Assembling::with_header))]
+#[tactic(auto, unfolding(spec_machine::specs::Assembling::with_header))]
 fn take_listing(draft: &mut Draft, alloc: Global, text: &[u8]) -> Result<(), AsmError>
     requires { draft.old ≡ nothing }
     ensures { Gives (λ _. draft.new) result (with_header (parts 10 text.now)) }
@@ -49,7 +51,7 @@ fn take_listing(draft: &mut Draft, alloc: Global, text: &[u8]) -> Result<(), Asm
 }
 
 /// Returns the program that a text lists, or the first fault.
-#[tactic(auto, unfolding(crate::specs::Assembling::assembled))]
+#[tactic(auto, unfolding(spec_machine::specs::Assembling::assembled))]
 fn assemble_whole(alloc: Global, text: &[u8]) -> Result<Program, AsmError>
     ensures { Gives (λ x. x) result (assembled text.now) }
 {

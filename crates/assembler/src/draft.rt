@@ -1,20 +1,21 @@
 //! What was read of a listing so far.
 
 ghost use Rattle.std.specs.Prelude.{◌≡◌, ◌+◌, ◌^◌, ◌<◌, ◌≤◌, ◌∷◌, ◌++◌, [], OnErr, OnOk, length, true};
-ghost use Rattle.isa.specs.Judging.{judged};
-ghost use Rattle.isa.specs.Program.{Program as Parted};
-ghost use Rattle.assembler.specs.Assembling.{Gives, checked, fault, fault_of, in_range, index_of, is_before_code, is_before_jumps, is_before_maps, is_before_misses, nothing, with_constant, pushed_constant, with_instr, with_jumps, with_list, with_map, with_miss, with_words};
+ghost use Rattle.spec_machine.specs.Judging.{judged};
+ghost use Rattle.spec_machine.specs.Program.{Program as Parted};
+ghost use Rattle.assembler.specs.Assembling.{Gives, index_of, pushed_constant, with_list};
+ghost use Rattle.spec_machine.specs.Assembling.{checked, fault, fault_of, in_range, is_before_code, is_before_jumps, is_before_maps, is_before_misses, nothing, with_constant, with_instr, with_jumps, with_map, with_miss, with_words};
 ghost use Rattle.assembler.specs.Draft.{AreFirst};
-ghost use Rattle.assembler.specs.Words.{later, words};
-ghost use Rattle.assembler.specs.declared.fault.AsmError.TheVariants as errors;
+ghost use Rattle.spec_machine.specs.ListingWords.{later, words};
+ghost use Rattle.spec_machine.specs.declared.listing_fault.AsmError.TheVariants as errors;
 
-use crate::fault::{AsmError, AsmErrorKind, AsmFault};
 use crate::things::{first_number, instr_of, miss_of, numbered_constant, numbered_list};
 use crate::{is_text, number_of, split_word};
 use isa::{
     Lists, MOST_CONSTANT_BYTES, MOST_ENTRIES, MOST_INSTRS, MOST_TABLES, Parts, Program,
     ProgramError,
 };
+use spec_machine::{AsmError, AsmErrorKind, AsmFault};
 use std::alloc::Global;
 use std::marker::Model;
 
@@ -27,7 +28,8 @@ pub(crate) struct Draft {
 }
 
 impl Model for Draft {
-    ghost use Rattle.isa.specs.Program.{Program, program_of};
+    ghost use Rattle.spec_machine.specs.Program.{Program};
+    ghost use Rattle.isa.specs.Program.{program_of};
     ghost use Rattle.assembler.specs.Draft.{IsDraft};
 
     ghost Value = { Program };
@@ -162,7 +164,7 @@ impl Draft {
     }
 
     /// Takes the line of a constant, given the words after the first.
-    #[tactic(auto, unfolding(crate::specs::Assembling::with_constant))]
+    #[tactic(auto, unfolding(spec_machine::specs::Assembling::with_constant))]
     fn take_constant(&mut self, alloc: Global, at: usize, words: &[u8]) -> Result<(), AsmError>
         ensures { Gives (λ _. self.new) result (with_constant at self.old (later words.now)) }
     {
@@ -173,7 +175,7 @@ impl Draft {
     }
 
     /// Takes the line of a map, given the words after the first.
-    #[tactic(auto, unfolding(crate::specs::Assembling::with_map))]
+    #[tactic(auto, unfolding(spec_machine::specs::Assembling::with_map))]
     fn take_map(&mut self, alloc: Global, at: usize, words: &[u8]) -> Result<(), AsmError>
         ensures { Gives (λ _. self.new) result (with_map at self.old (later words.now)) }
     {
@@ -186,7 +188,7 @@ impl Draft {
     }
 
     /// Takes the line of a jump table, given the words after the first.
-    #[tactic(auto, unfolding(crate::specs::Assembling::with_jumps))]
+    #[tactic(auto, unfolding(spec_machine::specs::Assembling::with_jumps))]
     fn take_jumps(&mut self, alloc: Global, at: usize, words: &[u8]) -> Result<(), AsmError>
         ensures { Gives (λ _. self.new) result (with_jumps at self.old (later words.now)) }
     {
@@ -199,7 +201,7 @@ impl Draft {
     }
 
     /// Takes the line of a miss, given the words after the first.
-    #[tactic(auto, unfolding(crate::specs::Assembling::with_miss, crate::specs::Things::numbered))]
+    #[tactic(auto, unfolding(spec_machine::specs::Assembling::with_miss, spec_machine::specs::ListingParts::numbered))]
     fn take_miss(&mut self, at: usize, words: &[u8]) -> Result<(), AsmError>
         ensures { Gives (λ _. self.new) result (with_miss at self.old (later words.now)) }
     {
@@ -216,7 +218,7 @@ impl Draft {
     }
 
     /// Takes the line of an instruction, whose first word is its number.
-    #[tactic(auto, unfolding(crate::specs::Assembling::with_instr, crate::specs::Things::numbered, crate::specs::Things::first_number))]
+    #[tactic(auto, unfolding(spec_machine::specs::Assembling::with_instr, spec_machine::specs::ListingParts::numbered, spec_machine::specs::ListingParts::first_number))]
     fn take_instr(&mut self, at: usize, first: &[u8], rest: &[u8]) -> Result<(), AsmError>
         ensures { Gives (λ _. self.new) result (with_instr at self.old (first.now ∷ later rest.now)) }
     {
@@ -233,7 +235,7 @@ impl Draft {
     }
 
     /// Takes the next line, whose number in the text is `at`.
-    #[tactic(auto, unfolding(crate::specs::Assembling::with_words))]
+    #[tactic(auto, unfolding(spec_machine::specs::Assembling::with_words))]
     pub(crate) fn take(&mut self, alloc: Global, at: usize, line: &[u8]) -> Result<(), AsmError>
         ensures { Gives (λ _. self.new) result (with_words at self.old (words line.now)) }
     {

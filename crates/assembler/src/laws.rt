@@ -1,9 +1,10 @@
 //! The law of listings. It does nothing when it runs.
 
 ghost use Rattle.std.specs.Prelude.{◌≡◌};
-ghost use Rattle.isa.specs.Program.{Program};
-ghost use Rattle.isa.specs.Range.{IsProgram};
-ghost use Rattle.assembler.specs.Listing.{HasBytes, listing_of};
+ghost use Rattle.spec_machine.specs.Program.{Program};
+ghost use Rattle.spec_machine.specs.Range.{IsProgram};
+ghost use Rattle.assembler.specs.Listing.{HasBytes};
+ghost use Rattle.spec_machine.specs.Listing.{listing_of};
 
 /// The law that no two programs share a listing.
 pub fn listing_is_of_one_program()

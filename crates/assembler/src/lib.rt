@@ -5,16 +5,15 @@
 
 mod assembling;
 mod draft;
-mod fault;
 mod laws;
 mod listing;
 mod things;
 mod words;
 
 pub use assembling::assemble;
-pub use fault::{AsmError, AsmErrorKind, AsmFault};
 pub use laws::listing_is_of_one_program;
 pub use listing::disassemble;
+pub use spec_machine::{AsmError, AsmErrorKind, AsmFault};
 pub use things::bytes_of;
 pub use words::{
     is_numeral, is_text, kind_named, next_word, number_of, operation_named, split_line, split_word,

@@ -2,7 +2,7 @@
 
 ghost use Rattle.std.specs.Prelude.{◌≡◌, ◌++◌, string_bytes, OnOk, IfOk};
 ghost use Rattle.std.specs.List.{flat_map};
-ghost use Rattle.assembler.specs.Listing.{constant_line, entry, instr_line, jumps_line, lines, listing_of, map_line, miss_line, number, operand};
+ghost use Rattle.spec_machine.specs.Listing.{constant_line, entry, instr_line, jumps_line, lines, listing_of, map_line, miss_line, number, operand};
 
 use avro_bytes::Mismatch;
 use isa::{Entry, Instr, Lists, Program, Shape};

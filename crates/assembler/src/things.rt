@@ -1,8 +1,8 @@
 //! What the words of a line say: numbers, bytes, entries, operands.
 
 ghost use Rattle.std.specs.Prelude.{◌≡◌, ℕ, List, Option, IfOk, option_map};
-ghost use Rattle.assembler.specs.Things.{at_end, bytes_in, constant_in, each_in, entry_in, first_number, instr_in, miss_in, numbered, operand_in};
-ghost use Rattle.assembler.specs.Words.{later, number_in};
+ghost use Rattle.spec_machine.specs.ListingParts.{at_end, bytes_in, constant_in, each_in, entry_in, first_number, instr_in, miss_in, numbered, operand_in};
+ghost use Rattle.spec_machine.specs.ListingWords.{later, number_in};
 
 use crate::{kind_named, next_word, number_of, operation_named};
 use avro_bytes::Mismatch;
@@ -11,7 +11,7 @@ use isa::{Entry, Instr, Shape};
 use std::alloc::{AllocError, Global};
 
 /// Returns the first number after a space, and what follows it; `None` where the next word is no number.
-#[tactic(auto, unfolding(crate::specs::Things::first_number))]
+#[tactic(auto, unfolding(spec_machine::specs::ListingParts::first_number))]
 pub(crate) fn first_number(rest: &[u8]) -> Option<(u32, &[u8])>
     ensures { option_map (λ p. (p.0, later p.1.now)) result ≡ first_number (later rest.now) }
 {
@@ -21,7 +21,7 @@ pub(crate) fn first_number(rest: &[u8]) -> Option<(u32, &[u8])>
 }
 
 /// Returns the bytes whose lower-case hex a word is; `None` where it is none or empty.
-#[tactic(auto, unfolding(crate::specs::Things::bytes_in))]
+#[tactic(auto, unfolding(spec_machine::specs::ListingParts::bytes_in))]
 pub fn bytes_of(alloc: Global, word: &[u8]) -> Result<Option<Vec<u8>>, AllocError>
     ensures { IfOk result (λ found. option_map (λ bytes. bytes.items) found ≡ bytes_in word.now) }
 {
@@ -38,7 +38,7 @@ pub fn bytes_of(alloc: Global, word: &[u8]) -> Result<Option<Vec<u8>>, AllocErro
 }
 
 /// Returns the constant that the words of a line say; `None` where they are not one word of hex.
-#[tactic(auto, unfolding(crate::specs::Things::constant_in))]
+#[tactic(auto, unfolding(spec_machine::specs::ListingParts::constant_in))]
 fn constant_of(alloc: Global, rest: &[u8]) -> Result<Option<Vec<u8>>, AllocError>
     ensures { IfOk result (λ found. option_map (λ bytes. bytes.items) found ≡ constant_in (later rest.now)) }
 {
@@ -71,7 +71,7 @@ impl Word for u32 {
 impl Word for Entry {
     ghost said = { entry_in };
 
-    #[tactic(auto, unfolding(crate::specs::Things::entry_in))]
+    #[tactic(auto, unfolding(spec_machine::specs::ListingParts::entry_in))]
     fn of_word(word: &[u8]) -> Option<Entry> {
         match word {
             [] => None,
@@ -98,7 +98,7 @@ fn list_of<T: Word>(alloc: Global, words: &[u8]) -> Result<Option<Vec<T>>, Alloc
 }
 
 /// Returns the number and the constant that the words of a line say, if they say them.
-#[tactic(auto, unfolding(crate::specs::Things::numbered))]
+#[tactic(auto, unfolding(spec_machine::specs::ListingParts::numbered))]
 pub(crate) fn numbered_constant(
     alloc: Global,
     words: &[u8],
@@ -116,7 +116,7 @@ pub(crate) fn numbered_constant(
 }
 
 /// Returns the number and the list that the words of a line say, if they say them.
-#[tactic(auto, unfolding(crate::specs::Things::numbered))]
+#[tactic(auto, unfolding(spec_machine::specs::ListingParts::numbered))]
 pub(crate) fn numbered_list<T: Word>(
     alloc: Global,
     words: &[u8],
@@ -144,7 +144,7 @@ fn at_end<T: Copy>(thing: T, rest: &[u8]) -> Option<T>
 }
 
 /// Returns the miss that the words of a line say, if they say one.
-#[tactic(auto, unfolding(crate::specs::Things::miss_in))]
+#[tactic(auto, unfolding(spec_machine::specs::ListingParts::miss_in))]
 pub(crate) fn miss_of(rest: &[u8]) -> Option<Mismatch>
     ensures { result ≡ miss_in (later rest.now) }
 {
@@ -171,7 +171,7 @@ fn operand_of(shape: Shape, rest: &[u8]) -> Option<(u32, &[u8])>
 }
 
 /// Returns the instruction that the words of a line say, if they say one.
-#[tactic(auto, unfolding(crate::specs::Things::instr_in))]
+#[tactic(auto, unfolding(spec_machine::specs::ListingParts::instr_in))]
 pub(crate) fn instr_of(rest: &[u8]) -> Option<Instr>
     ensures { result ≡ instr_in (later rest.now) }
 {

@@ -4,20 +4,12 @@ ghost use Rattle.std.specs.Prelude.{◌≡◌, ◌<◌, ◌≤◌, ◌∷◌, []
 ghost use Rattle.std.specs.Char.{is_ascii_digit};
 ghost use Rattle.std.specs.List.{list_all};
 ghost use Rattle.std.specs.Str.{bytes_eq};
-ghost use Rattle.assembler.specs.Words.{is_numeral, kind_named, later, number_in, operation_named, parts, value_of, words};
+ghost use Rattle.spec_machine.specs.ListingWords.{is_numeral, kind_named, later, number_in, operation_named, parts, value_of, words};
 
 use avro_bytes::MismatchKind;
 use isa::{OPERATIONS, Operation};
 use memchr::memchr;
-
-/// The kinds of misses.
-pub const KINDS: [MismatchKind; 5] = [
-    MismatchKind::NoMatch,
-    MismatchKind::NoBranch,
-    MismatchKind::NoSymbol,
-    MismatchKind::NoDefault,
-    MismatchKind::BytesNotText,
-];
+pub use spec_machine::KINDS;
 
 /// Returns whether bytes are those of a text.
 pub fn is_text(bytes: &[u8], text: &str) -> bool
@@ -49,7 +41,7 @@ pub fn split_word(line: &[u8]) -> (&[u8], &[u8])
 }
 
 /// Returns the first word after a space, and what follows it from a space on; `None` where nothing is left.
-#[tactic(auto, unfolding(crate::specs::Words::later))]
+#[tactic(auto, unfolding(spec_machine::specs::ListingWords::later))]
 pub fn next_word(rest: &[u8]) -> Option<(&[u8], &[u8])>
     ensures { MatchOption result (later rest.now ≡ [])
         (λ p. (later rest.now ≡ p.0.now ∷ later p.1.now) × (length p.1.now < length rest.now)) }
@@ -93,7 +85,7 @@ fn value_of(digits: &[u8]) -> u32
 
 /// Returns the number that a word is, or `u32::MAX` where it is greater; `None` where the word is no number without
 /// leading zeros.
-#[tactic(auto, unfolding(crate::specs::Words::number_in))]
+#[tactic(auto, unfolding(spec_machine::specs::ListingWords::number_in))]
 pub fn number_of(word: &[u8]) -> Option<u32>
     ensures { result ≡ number_in word.now }
 {
@@ -105,7 +97,7 @@ pub fn number_of(word: &[u8]) -> Option<u32>
 }
 
 /// Returns the kind of a miss that has this name; `None` where no kind has it.
-#[tactic(auto, unfolding(crate::specs::Words::kind_named))]
+#[tactic(auto, unfolding(spec_machine::specs::ListingWords::kind_named))]
 pub fn kind_named(word: &[u8]) -> Option<MismatchKind>
     ensures { result ≡ kind_named word.now }
 {
@@ -116,7 +108,7 @@ pub fn kind_named(word: &[u8]) -> Option<MismatchKind>
 }
 
 /// Returns the operation that has this name; `None` where no operation has it.
-#[tactic(auto, unfolding(crate::specs::Words::operation_named))]
+#[tactic(auto, unfolding(spec_machine::specs::ListingWords::operation_named))]
 pub fn operation_named(word: &[u8]) -> Option<Operation>
     ensures { result ≡ operation_named word.now }
 {

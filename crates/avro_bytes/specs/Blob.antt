@@ -1,9 +1,9 @@
 -- What decoding bytes or a fixed at an offset gives (Avro 1.11, "Binary Encoding", bytes and fixed).
 use Rattle.std.specs.Prelude.{ℕ, ◌+◌, ◌-◌, List, length, take, drop, nat_lt, if◌then◌else◌}
 use Rattle.spec_avro.specs.declared.meter.Meter.{Meter}
-use Rattle.avro_bytes.specs.Decoding.{Complete, Decoding, Failed, ◌>>=◌}
+use Rattle.spec_decoding.specs.Decoding.{Complete, Decoding, Failed, ◌>>=◌}
 use Rattle.spec_avro.specs.Defect.{Need}
-use Rattle.avro_bytes.specs.Length.{length_at}
+use Rattle.spec_decoding.specs.LengthDecoding.{length_at}
 
 -- the bytes of a fixed at an offset
 unfoldable pub fixed_at : ℕ → List ℕ → ℕ → Meter → Decoding (List ℕ)

@@ -1,9 +1,10 @@
 -- What calls that read, and calls that skip, answer of what decoding gives.
 use Rattle.std.specs.Prelude.{◌≡◌, ℕ, Result, Ok, Err}
 use Rattle.spec_avro.specs.declared.meter.Meter.{Meter}
-use Rattle.avro_bytes.specs.declared.fault.Fault.{Fault}
-use Rattle.avro_bytes.specs.declared.fault.Fault.TheVariants as fault
-use Rattle.avro_bytes.specs.Decoding.{Complete, Decoding, Failed, IsComplete}
+use Rattle.spec_decoding.specs.declared.fault.Fault.{Fault}
+use Rattle.spec_decoding.specs.declared.fault.Fault.TheVariants as fault
+use Rattle.spec_decoding.specs.Decoding.{Complete, Decoding, Failed}
+use Rattle.avro_bytes.specs.Decoding.{IsComplete}
 use Rattle.spec_avro.specs.Defect.{Defect, Malformed, Need}
 
 -- what reading answers, its value seen by view; and what decoding is like where memory ran out

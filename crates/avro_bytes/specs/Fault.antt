@@ -1,6 +1,6 @@
 -- The defect that a failed decoding has. This project's own.
 use Rattle.std.specs.Prelude.{◌≡◌, ℕ, ◌+◌}
-use Rattle.avro_bytes.specs.Decoding.{Complete, Decoding, Failed}
+use Rattle.spec_decoding.specs.Decoding.{Complete, Decoding, Failed}
 use Rattle.spec_avro.specs.Defect.{Defect, Malformed, Need}
 use Rattle.spec_avro.specs.Fault.{shifted}
 

@@ -19,3 +19,4 @@ pub mod TextDefects
 pub mod Texts
 pub mod Tights
 pub mod Walks
+pub mod Plain

@@ -1,16 +1,10 @@
 pub mod Blob
 pub mod BlockDecoding
-pub mod Boolean
 pub mod Contract
 pub mod Decoding
 pub mod Fault
 pub mod Laws
-pub mod Length
-pub mod Meter
 pub mod NumberDecoding
-pub mod Position
 pub mod Shortest
 pub mod Text
-pub mod Walk
 pub mod Walking
-pub mod Outcome

@@ -4,7 +4,7 @@ use Rattle.std.specs.Str.{is_utf8}
 use Rattle.spec_avro.specs.declared.malformed.MalformedKind.TheVariants.{BadText}
 use Rattle.spec_avro.specs.declared.meter.Meter.{Meter}
 use Rattle.avro_bytes.specs.Blob.{content_at}
-use Rattle.avro_bytes.specs.Decoding.{Complete, Decoding, Failed, ◌>>=◌}
+use Rattle.spec_decoding.specs.Decoding.{Complete, Decoding, Failed, ◌>>=◌}
 use Rattle.spec_avro.specs.Defect.{Malformed}
 
 -- a content, where it is UTF-8

@@ -2,9 +2,9 @@
 -- "Binary Encoding", arrays and maps).
 use Rattle.std.specs.Prelude.{◌≡◌, ℕ, ◌+◌, ◌-◌, List, ◌∷◌, ◌++◌, length}
 use Rattle.spec_avro.specs.declared.meter.Meter.{Meter}
-use Rattle.avro_bytes.specs.BlockDecoding.{item_at, next_item}
+use Rattle.spec_decoding.specs.BlockDecoding.{item_at, next_item}
 use Rattle.spec_avro.specs.Blocks.{IsItems, SizeIs, joined}
-use Rattle.avro_bytes.specs.Walk.{Walk}
+use Rattle.spec_decoding.specs.Walk.{Walk}
 
 -- the items that end at an offset have their block's size
 abbrev pub IsMet : Walk → ℕ → Type 0

@@ -10,10 +10,10 @@ ghost use Rattle.avro_bytes.specs.Laws.Blobs.{blob_complete, blob_one_form, blob
 ghost use Rattle.avro_bytes.specs.Laws.Fixeds.{fixed_complete, fixed_defect, fixed_one_form, fixed_sound, fixed_steady, fixed_told};
 ghost use Rattle.avro_bytes.specs.Laws.BlobDefects.{content_defect, content_told};
 
-use crate::fault::Fault;
 use crate::form::WireForm;
 use crate::length::read_length;
 use crate::meter::Meter;
+use spec_decoding::Fault;
 use std::alloc::Global;
 
 /// Returns the `size` bytes at an offset, the offset after them, and the meter; `Need` where there are fewer bytes.

@@ -2,10 +2,11 @@
 
 ghost use Rattle.std.specs.Prelude.{◌≡◌, ◌≤◌, ◌<◌, ◌+◌, length, suc, IfOk, IsTrue, false};
 
-use crate::fault::{Fault, MalformedKind};
 use crate::limits::MOST_UNITS;
 use crate::meter::{Meter, enter_blocks, enter_item};
 use crate::number::read_long;
+use spec_avro::MalformedKind;
+use spec_decoding::Fault;
 use std::marker::Model;
 
 /// A walk over the blocks of an array or a map, from one item to the next.
@@ -22,7 +23,7 @@ pub struct BlockWalk {
 }
 
 impl Model for BlockWalk {
-    ghost use Rattle.avro_bytes.specs.Walk.{Walk};
+    ghost use Rattle.spec_decoding.specs.Walk.{Walk};
 
     ghost Value = { Walk };
 
@@ -32,9 +33,10 @@ impl Model for BlockWalk {
 }
 
 impl BlockWalk {
-    ghost use Rattle.avro_bytes.specs.BlockDecoding.{Begins, Walks, is_met, item_at, next_block, next_item, sized_block};
+    ghost use Rattle.avro_bytes.specs.BlockDecoding.{Begins, Walks};
+    ghost use Rattle.spec_decoding.specs.BlockDecoding.{is_met, item_at, next_block, next_item, sized_block};
     ghost use Rattle.avro_bytes.specs.Contract.{Finds};
-    ghost use Rattle.avro_bytes.specs.Meter.{opened_blocks};
+    ghost use Rattle.spec_decoding.specs.Opening.{opened_blocks};
 
     /// Returns a walk over the blocks at an offset, and the meter inside them; `TooDeep` at that offset where
     /// `MOST_DEPTH` others are open.
@@ -119,7 +121,7 @@ impl BlockWalk {
     }
 
     /// Returns the walk at the next item, or `None` after the last block; with it the offset and the meter there.
-    #[tactic(auto, unfolding(crate::specs::BlockDecoding::next_item))]
+    #[tactic(auto, unfolding(spec_decoding::specs::BlockDecoding::next_item))]
     fn step(
         self,
         bytes: &[u8],
@@ -155,7 +157,7 @@ impl BlockWalk {
     }
 
     /// Returns the walk inside the block at an offset, or `None` where the count there is 0 and the blocks end.
-    #[tactic(auto, unfolding(crate::specs::BlockDecoding::next_block))]
+    #[tactic(auto, unfolding(spec_decoding::specs::BlockDecoding::next_block))]
     fn next_block(
         bytes: &[u8],
         at: usize,
@@ -181,7 +183,7 @@ impl BlockWalk {
     }
 
     /// Returns the walk inside a block whose size is at an offset, with `left` items to come after the first.
-    #[tactic(auto, unfolding(crate::specs::BlockDecoding::sized_block))]
+    #[tactic(auto, unfolding(spec_decoding::specs::BlockDecoding::sized_block))]
     fn sized_block(
         bytes: &[u8],
         count_at: usize,

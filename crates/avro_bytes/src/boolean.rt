@@ -2,13 +2,14 @@
 
 ghost use Rattle.std.specs.Prelude.{◌≡◌, ◌≤◌, length, IfOk, Bool as Truth};
 ghost use Rattle.spec_avro.specs.Boolean.{FaultyBoolean, IsBoolean};
-ghost use Rattle.avro_bytes.specs.Boolean.{boolean_at};
+ghost use Rattle.spec_decoding.specs.BooleanDecoding.{boolean_at};
 ghost use Rattle.avro_bytes.specs.Contract.{Finds, Never};
 ghost use Rattle.avro_bytes.specs.Laws.Booleans.{boolean_complete, boolean_defect, boolean_one_form, boolean_sound, boolean_steady, boolean_told};
 
-use crate::fault::{Fault, MalformedKind};
 use crate::form::WireForm;
 use crate::meter::Meter;
+use spec_avro::MalformedKind;
+use spec_decoding::Fault;
 
 /// A boolean.
 #[derive(Clone, Copy, Debug)]

@@ -3,12 +3,13 @@
 ghost use Rattle.std.specs.Prelude.{◌≡◌, ◌≢◌, ◌≤◌, ◌+◌, ◌++◌, ℕ, List, length, drop, IfOk};
 ghost use Rattle.spec_avro.specs.declared.meter.Meter.{Meter};
 ghost use Rattle.avro_bytes.specs.Contract.{AnswersAlike, Reads, skipped};
-ghost use Rattle.avro_bytes.specs.Decoding.{Complete, Decoding, Failed, Stands};
+ghost use Rattle.spec_decoding.specs.Decoding.{Complete, Decoding, Failed};
+ghost use Rattle.avro_bytes.specs.Decoding.{Stands};
 ghost use Rattle.spec_avro.specs.Defect.{Defect, Need};
 ghost use Rattle.avro_bytes.specs.Fault.{HasDefect, failing};
 
-use crate::fault::Fault;
 use crate::meter::Meter;
+use spec_decoding::Fault;
 
 /// An encoding of values as bytes. Offsets are counted from the start of the bytes.
 pub trait WireForm {

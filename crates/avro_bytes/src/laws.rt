@@ -2,19 +2,20 @@
 
 ghost use Rattle.std.specs.Prelude.{ℕ, ℤ, List, [], ◌∷◌, ◌++◌, ◌+◌, ◌≡◌, ◌≢◌, ◌≤◌, ◌<◌, ◌↔◌, suc, drop, length, Some, None};
 ghost use Rattle.avro_bytes.specs.Blob.{content_at, fixed_at};
-ghost use Rattle.avro_bytes.specs.BlockDecoding.{next_block, next_item};
+ghost use Rattle.spec_decoding.specs.BlockDecoding.{next_block, next_item};
 ghost use Rattle.spec_avro.specs.BlockFault.{FaultyHead};
 ghost use Rattle.spec_avro.specs.Blocks.{IsItems};
-ghost use Rattle.avro_bytes.specs.Decoding.{Complete, Failed, Stands};
+ghost use Rattle.spec_decoding.specs.Decoding.{Complete, Failed};
+ghost use Rattle.avro_bytes.specs.Decoding.{Stands};
 ghost use Rattle.spec_avro.specs.Defect.{Defect, Malformed, Need};
 ghost use Rattle.avro_bytes.specs.Fault.{HasDefect, failing};
-ghost use Rattle.avro_bytes.specs.Length.{length_at};
+ghost use Rattle.spec_decoding.specs.LengthDecoding.{length_at};
 ghost use Rattle.spec_avro.specs.Meter.{RefusesItem};
-ghost use Rattle.avro_bytes.specs.Meter.{closed_blocks};
+ghost use Rattle.spec_decoding.specs.Opening.{closed_blocks};
 ghost use Rattle.spec_avro.specs.Number.{IsNumber32, IsNumber64, int_limit, long_limit};
 ghost use Rattle.avro_bytes.specs.Shortest.{AreBytes, FitsLimit, IsTight};
 ghost use Rattle.spec_avro.specs.Shortest.{shortest};
-ghost use Rattle.avro_bytes.specs.Walk.{Walk, first_walk};
+ghost use Rattle.spec_decoding.specs.Walk.{Walk, first_walk};
 ghost use Rattle.avro_bytes.specs.Walking.{Comes, IsMet, Leads, Remains};
 ghost use Rattle.spec_avro.specs.declared.malformed.MalformedKind.TheVariants.{BadBlock};
 ghost use Rattle.spec_avro.specs.declared.meter.Meter.{Meter};

@@ -2,16 +2,17 @@
 
 ghost use Rattle.std.specs.Prelude.{◌≡◌, ◌≤◌, length, IfOk};
 ghost use Rattle.avro_bytes.specs.Contract.{Finds};
-ghost use Rattle.avro_bytes.specs.Length.{length_at};
+ghost use Rattle.spec_decoding.specs.LengthDecoding.{length_at};
 
-use crate::fault::{Fault, MalformedKind};
 use crate::limits::MOST_CONTENT;
 use crate::meter::Meter;
 use crate::number::read_long;
+use spec_avro::MalformedKind;
+use spec_decoding::Fault;
 
 /// Reads the length at an offset, of a content that follows it: the length in bytes, the offset after it, and the
 /// meter; else the first fault. Allocates nothing.
-#[tactic(auto, unfolding(crate::specs::Length::length_at))]
+#[tactic(auto, unfolding(spec_decoding::specs::LengthDecoding::length_at))]
 pub fn read_length(bytes: &[u8], at: usize, meter: Meter) -> Result<(usize, usize, Meter), Fault>
     requires { at ≤ length bytes.now }
     ensures finds { Finds (λ n. n) result (length_at bytes.now at meter) }

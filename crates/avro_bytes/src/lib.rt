@@ -7,14 +7,12 @@
 mod blob;
 mod blocks;
 mod boolean;
-mod fault;
 mod form;
 mod laws;
 mod length;
 mod limits;
 mod meter;
 mod number;
-mod payload;
 mod position;
 mod put;
 mod text;
@@ -22,7 +20,6 @@ mod text;
 pub use blob::{Blob, FixedBytes};
 pub use blocks::BlockWalk;
 pub use boolean::{Bool, read_boolean};
-pub use fault::{Fault, MalformedKind};
 pub use form::{WireForm, read_and_skip};
 pub use laws::{
     content_is_a_length_and_a_fixed, limits_are_these, shortest_spelling_is_shortest,
@@ -35,9 +32,9 @@ pub use limits::{
     MOST_PAYLOAD, MOST_UNITS,
 };
 pub use meter::{Meter, enter_blocks, enter_item, enter_record};
-pub use number::{Int, Long, read_int, read_long};
-pub use payload::Outcome;
+pub use number::{Int, Long, Width, read_int, read_long};
 pub use position::{Position, read_position};
 pub use put::{long_len, put_long};
-pub use spec_avro::{Mismatch, MismatchKind};
+pub use spec_avro::{MalformedKind, Mismatch, MismatchKind, Outcome};
+pub use spec_decoding::Fault;
 pub use text::Text;

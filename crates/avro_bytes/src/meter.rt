@@ -1,11 +1,12 @@
 //! How much of a message was opened: its depth and its units.
 
 ghost use Rattle.std.specs.Prelude.{◌≡◌};
-ghost use Rattle.avro_bytes.specs.Meter.{opened_blocks, opened_item, opened_record};
+ghost use Rattle.spec_decoding.specs.Opening.{opened_blocks, opened_item, opened_record};
 
-use crate::fault::{Fault, MalformedKind};
 use crate::limits::{MOST_DEPTH, MOST_UNITS};
+use spec_avro::MalformedKind;
 pub use spec_avro::Meter;
+use spec_decoding::Fault;
 
 /// Returns the meter inside a record that begins at an offset. `TooDeep` at that offset where `MOST_DEPTH` others are
 /// open, else `TooMany` there after `MOST_UNITS` units.

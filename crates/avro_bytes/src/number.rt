@@ -4,15 +4,17 @@ ghost use Rattle.std.specs.Prelude.{◌≡◌, ◌≤◌, ◌<◌, ◌+◌, ◌-
 ghost use Rattle.std.proofs.Common.{lit<};
 ghost use Rattle.avro_bytes.specs.Contract.{Finds, Never};
 ghost use Rattle.spec_avro.specs.Fault.{FaultyNumber};
-ghost use Rattle.spec_avro.specs.Number.{IsNumber32, IsNumber64, int_limit, long_limit};
-ghost use Rattle.avro_bytes.specs.NumberDecoding.{GivesGroups, from_zigzag, number_at, number_front};
+ghost use Rattle.spec_avro.specs.Number.{IsNumber, Limit, int_limit, long_limit};
+ghost use Rattle.avro_bytes.specs.NumberDecoding.{GivesGroups};
+ghost use Rattle.spec_decoding.specs.NumberDecoding.{from_zigzag, number_at, number_front};
 ghost use Rattle.avro_bytes.specs.Laws.Defects.{number_defect, number_told};
 ghost use Rattle.avro_bytes.specs.Laws.Numbers.{number_complete, number_one_form, number_sound, number_steady};
 
-use crate::fault::{Fault, MalformedKind};
 use crate::form::WireForm;
 use crate::limits::{INT_BYTES, INT_LAST, LONG_BYTES, LONG_LAST};
 use crate::meter::Meter;
+use spec_avro::MalformedKind;
+use spec_decoding::Fault;
 
 /// A number of 32 bits: an int, or a position.
 #[derive(Clone, Copy, Debug)]
@@ -75,7 +77,7 @@ fn signed_32(groups: u64) -> i32
 
 /// Reads the number of 64 bits at an offset: the number, the offset after it, and the meter; else the first fault.
 /// Allocates nothing.
-#[tactic(auto, unfolding(crate::specs::NumberDecoding::number_at))]
+#[tactic(auto, unfolding(spec_decoding::specs::NumberDecoding::number_at))]
 pub fn read_long(bytes: &[u8], at: usize, meter: Meter) -> Result<(i64, usize, Meter), Fault>
     requires { at ≤ length bytes.now }
     ensures finds { Finds (λ n. n) result (number_at long_limit bytes.now at meter) }
@@ -89,7 +91,7 @@ pub fn read_long(bytes: &[u8], at: usize, meter: Meter) -> Result<(i64, usize, M
 
 /// Reads the number of 32 bits at an offset: the number, the offset after it, and the meter; else the first fault.
 /// Allocates nothing.
-#[tactic(auto, unfolding(crate::specs::NumberDecoding::number_at))]
+#[tactic(auto, unfolding(spec_decoding::specs::NumberDecoding::number_at))]
 pub fn read_int(bytes: &[u8], at: usize, meter: Meter) -> Result<(i32, usize, Meter), Fault>
     requires { at ≤ length bytes.now }
     ensures finds { Finds (λ n. n) result (number_at int_limit bytes.now at meter) }
@@ -101,84 +103,98 @@ pub fn read_int(bytes: &[u8], at: usize, meter: Meter) -> Result<(i32, usize, Me
     Ok((signed_32(groups), to, meter))
 }
 
-impl WireForm for Long {
-    type Value = i64;
+/// A width of numbers: 32 or 64 bits.
+pub trait Width {
+    type Number: Drop;
 
-    ghost Meaning = { ℤ };
+    /// The number, wherever it is in memory.
+    ghost number: { Self.Number → ℤ };
 
-    ghost meaning = { λ n. n };
+    /// The most bytes that a number of this width has, and the greatest last byte of one that has as many.
+    ghost limit: { Limit };
 
-    ghost spells = { λ _ n bytes. IsNumber64 n bytes };
+    /// Reads the number of this width at an offset: the number, the offset after it, and the meter; else the first
+    /// fault. Allocates nothing.
+    fn number(bytes: &[u8], at: usize, meter: Meter) -> Result<(Self::Number, usize, Meter), Fault>
+        requires { at ≤ length bytes.now }
+        ensures finds { Finds number result (number_at limit bytes.now at meter) }
+        ensures within { IfOk result (λ r. r.1 ≤ length bytes.now) }
+        ensures depth { IfOk result (λ r. r.2.depth ≡ meter.depth) }
+        ensures units { IfOk result (λ r. meter.units ≤ r.2.units) };
 
-    ghost faulty = { λ _ bytes m d. FaultyNumber long_limit bytes d };
+    /// A number has a byte, and its last one no high bit.
+    ghost ends: { (0 < limit.most) × (limit.top < 128) };
+}
 
-    ghost counts = { λ _ m after. m ≡ after };
+impl Width for Long {
+    type Number = i64;
 
-    ghost lacks = { λ _. Never };
+    ghost number = { λ n. n };
 
-    ghost decoding = { λ _ bytes at m. number_at long_limit bytes at m };
+    ghost limit = { long_limit };
 
-    ghost sound = { λ _ bytes at m n to after e. number_sound long_limit bytes at m n to after (lit< tt) e };
+    ghost ends = { (lit< tt, lit< tt) };
 
-    ghost complete = { λ _ before spelling rest m n after s e.
-        number_complete long_limit before spelling rest n m after s e };
-
-    ghost one_form = { λ _ a b x y m n s t e. number_one_form long_limit a b x y m n s t e };
-
-    ghost steady = { λ _ bytes more at m le c. number_steady long_limit bytes more at m le c };
-
-    ghost defect = { λ _ bytes at m le. number_defect long_limit bytes at m (lit< tt) };
-
-    ghost told = { λ _ before bytes m d f. number_told long_limit before bytes m d f };
-
-    fn read(&self, bytes: &[u8], at: usize, meter: Meter) -> Result<(i64, usize, Meter), Fault> {
+    fn number(bytes: &[u8], at: usize, meter: Meter) -> Result<(i64, usize, Meter), Fault> {
         read_long(bytes, at, meter)
-    }
-
-    #[tactic(auto, unfolding(crate::specs::NumberDecoding::number_at))]
-    fn skip(&self, bytes: &[u8], at: usize, meter: Meter) -> Result<(usize, Meter), Fault> {
-        let (_, to) = read_groups(bytes, at, LONG_BYTES, LONG_LAST)?;
-        Ok((to, meter))
     }
 }
 
-impl WireForm for Int {
-    type Value = i32;
+impl Width for Int {
+    type Number = i32;
+
+    ghost number = { λ n. n };
+
+    ghost limit = { int_limit };
+
+    ghost ends = { (lit< tt, lit< tt) };
+
+    fn number(bytes: &[u8], at: usize, meter: Meter) -> Result<(i32, usize, Meter), Fault> {
+        read_int(bytes, at, meter)
+    }
+}
+
+impl<W: Width> WireForm for W {
+    type Value = W::Number;
 
     ghost Meaning = { ℤ };
 
-    ghost meaning = { λ n. n };
+    ghost meaning = { W.number };
 
-    ghost spells = { λ _ n bytes. IsNumber32 n bytes };
+    ghost spells = { λ _ n bytes. IsNumber W.limit n bytes };
 
-    ghost faulty = { λ _ bytes m d. FaultyNumber int_limit bytes d };
+    ghost faulty = { λ _ bytes m d. FaultyNumber W.limit bytes d };
 
     ghost counts = { λ _ m after. m ≡ after };
 
     ghost lacks = { λ _. Never };
 
-    ghost decoding = { λ _ bytes at m. number_at int_limit bytes at m };
+    ghost decoding = { λ _ bytes at m. number_at W.limit bytes at m };
 
-    ghost sound = { λ _ bytes at m n to after e. number_sound int_limit bytes at m n to after (lit< tt) e };
+    ghost sound = { λ _ bytes at m n to after e. number_sound W.limit bytes at m n to after W.ends.1 e };
 
     ghost complete = { λ _ before spelling rest m n after s e.
-        number_complete int_limit before spelling rest n m after s e };
+        number_complete W.limit before spelling rest n m after s e };
 
-    ghost one_form = { λ _ a b x y m n s t e. number_one_form int_limit a b x y m n s t e };
+    ghost one_form = { λ _ a b x y m n s t e. number_one_form W.limit a b x y m n s t e };
 
-    ghost steady = { λ _ bytes more at m le c. number_steady int_limit bytes more at m le c };
+    ghost steady = { λ _ bytes more at m le c. number_steady W.limit bytes more at m le c };
 
-    ghost defect = { λ _ bytes at m le. number_defect int_limit bytes at m (lit< tt) };
+    ghost defect = { λ _ bytes at m le. number_defect W.limit bytes at m W.ends.0 };
 
-    ghost told = { λ _ before bytes m d f. number_told int_limit before bytes m d f };
+    ghost told = { λ _ before bytes m d f. number_told W.limit before bytes m d f };
 
-    fn read(&self, bytes: &[u8], at: usize, meter: Meter) -> Result<(i32, usize, Meter), Fault> {
-        read_int(bytes, at, meter)
+    fn read(
+        &self,
+        bytes: &[u8],
+        at: usize,
+        meter: Meter,
+    ) -> Result<(W::Number, usize, Meter), Fault> {
+        W::number(bytes, at, meter)
     }
 
-    #[tactic(auto, unfolding(crate::specs::NumberDecoding::number_at))]
     fn skip(&self, bytes: &[u8], at: usize, meter: Meter) -> Result<(usize, Meter), Fault> {
-        let (_, to) = read_groups(bytes, at, INT_BYTES, INT_LAST)?;
+        let (_, to, meter) = W::number(bytes, at, meter)?;
         Ok((to, meter))
     }
 }

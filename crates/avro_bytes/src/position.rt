@@ -3,13 +3,14 @@
 ghost use Rattle.std.specs.Prelude.{◌≡◌, ◌≤◌, ◌<◌, ℕ, length, IfOk};
 ghost use Rattle.avro_bytes.specs.Contract.{Finds, Never};
 ghost use Rattle.spec_avro.specs.Position.{FaultyPosition, SpellsPosition};
-ghost use Rattle.avro_bytes.specs.Position.{position_at};
+ghost use Rattle.spec_decoding.specs.PositionDecoding.{position_at};
 ghost use Rattle.avro_bytes.specs.Laws.Positions.{position_complete, position_defect, position_one_form, position_sound, position_steady, position_told};
 
-use crate::fault::{Fault, MalformedKind};
 use crate::form::WireForm;
 use crate::meter::Meter;
 use crate::number::read_int;
+use spec_avro::MalformedKind;
+use spec_decoding::Fault;
 
 /// The position of one of `many` symbols or branches.
 #[derive(Clone, Copy, Debug)]
@@ -21,7 +22,7 @@ pub struct Position {
 
 /// Reads the position at an offset, below `many`, the number of symbols or branches: the position, the offset after
 /// it, and the meter. Any other number is the fault `bad`. Allocates nothing.
-#[tactic(auto, unfolding(crate::specs::Position::position_at))]
+#[tactic(auto, unfolding(spec_decoding::specs::PositionDecoding::position_at))]
 pub fn read_position(
     bad: MalformedKind,
     many: usize,

@@ -10,9 +10,10 @@ ghost use Rattle.avro_bytes.specs.Laws.Texts.{text_complete, text_one_form, text
 ghost use Rattle.avro_bytes.specs.Laws.TextDefects.{text_defect, text_told};
 
 use crate::blob::content;
-use crate::fault::{Fault, MalformedKind};
 use crate::form::WireForm;
 use crate::meter::Meter;
+use spec_avro::MalformedKind;
+use spec_decoding::Fault;
 use std::alloc::Global;
 
 /// UTF-8 after its length.

@@ -1,18 +1,19 @@
--- Reading the items of blocks, one after another.
-use Rattle.std.proofs.Common.{◌≡◌, ℕ, zero, suc, ◌+◌, ◌-◌, ◌<◌, ◌≤◌, List, [], ◌∷◌, ◌++◌, map, Option, Some, None, Err, Ok, Result, refl, sym, ap, ◌∙◌, arith, Bool, true, false}
-use Rattle.std.proofs.lemmas.List.{append-nil, map-append}
-use Rattle.std.specs.Global.{Vec}
+-- Walking over the items of blocks, one after another.
+use Rattle.std.proofs.Common.{◌≡◌, ℕ, zero, suc, ◌+◌, ◌-◌, ◌<◌, ◌≤◌, List, [], ◌∷◌, ◌++◌, Option, Some, None, Err, Ok, Result, refl, sym, ap, ◌∙◌, arith, Bool, true, false}
+use Rattle.std.proofs.lemmas.List.{append-nil}
 use Rattle.spec_avro.specs.declared.meter.Meter.{Meter}
-use Rattle.avro_bytes.specs.declared.fault.Fault.{Fault}
-use Rattle.avro_bytes.specs.declared.fault.Fault.TheVariants as fault
-use Rattle.avro_bytes.specs.Walk.{Walk}
-use Rattle.avro_bytes.specs.BlockDecoding.{Walks, next_item}
-use Rattle.avro_bytes.specs.Contract.{Gathers, skipped}
-use Rattle.avro_datum.specs.ItemDecoding.{Reader, items_at, items_from, steps_left}
+use Rattle.spec_decoding.specs.declared.fault.Fault.{Fault}
+use Rattle.spec_decoding.specs.Walk.{Walk, first_walk}
+use Rattle.avro_bytes.specs.BlockDecoding.{Walks}
+use Rattle.spec_decoding.specs.BlockDecoding.{next_item}
+use Rattle.spec_decoding.specs.Opening.{opened_blocks}
+use Rattle.avro_datum.specs.ItemDecoding.{Reader, blocks_at, items_at, items_from, steps_left}
 use Rattle.avro_datum.specs.Laws.ItemsAgain.{map_after, map_none}
-use Rattle.avro_bytes.specs.Decoding.{Complete, Decoding, Failed, map_decoding, ◌>>=◌}
-use Rattle.spec_avro.specs.Defect.{Malformed, Need}
+use Rattle.spec_decoding.specs.Decoding.{Complete, Decoding, inside, ◌>>=◌}
+use Rattle.avro_bytes.specs.Decoding.{map_decoding}
 use Rattle.spec_avro.specs.declared.limits.TheConstants.{MOST_UNITS}
+use Rattle.avro_datum.specs.Walking.{Failing}
+use Rattle.avro_datum.proofs.Walked.{fails_mapped, fails_then, fails_to_go_on}
 
 -- ---- what the walk answers
 
@@ -24,105 +25,67 @@ pub walks_out : (further : Bool) (next : ℕ) (after : Meter) (old new : Walk) (
 walks_out false next after old new step e w = w
 walks_out true next after old new step e w = absurd cc
 
--- ---- where some items have been read
+-- ---- where some items have been passed, which a group holds
 
-module _ {X A : Type 0} (view : X → A) (reader : Reader A) (bytes : List ℕ) (all : Decoding (List A)) where
-  pub record SoFar (walk : Walk) (front : List X) (to : ℕ) (m : Meter) : Type 0 where
+module _ {G A : Type 0} (holds : G → List A → Type 0) (reader : Reader A) (bytes : List ℕ) (all : Decoding (List A)) where
+  pub record SoFar (walk : Walk) (group : G) (to : ℕ) (m : Meter) : Type 0 where
     pub left : ℕ
     pub enough : MOST_UNITS - m.units < left
-    pub same : map_decoding (λ ws. map view front ++ ws) (items_at left reader bytes walk to m) ≡ all
+    pub front : List A
+    pub held : holds group front
+    pub same : map_decoding (λ ws. front ++ ws) (items_at left reader bytes walk to m) ≡ all
 
-  module _ (walk : Walk) (front : List X) (to : ℕ) (m : Meter) (s : SoFar walk front to m) where
-    at_step : (left : ℕ) → s.left ≡ suc left → (step : Decoding (Option Walk)) → next_item walk bytes to m ≡ step → all ≡ map_decoding (λ ws. map view front ++ ws) (step >>= items_from reader (items_at left reader bytes))
+  module _ (walk : Walk) (group : G) (to : ℕ) (m : Meter) (s : SoFar walk group to m) where
+    at_step : (left : ℕ) → s.left ≡ suc left → all ≡ map_decoding (λ ws. s.front ++ ws) (next_item walk bytes to m >>= items_from reader (items_at left reader bytes))
     unfolding items_at
-    at_step left l step e =
-        sym s.same ∙ ap (λ (k : ℕ). map_decoding (λ ws. map view front ++ ws) (items_at k reader bytes walk to m)) l
-        ∙ ap (λ (x : Decoding (Option Walk)). map_decoding (λ ws. map view front ++ ws) (x >>= items_from reader (items_at left reader bytes))) e
+    at_step left l = sym s.same ∙ ap (λ (k : ℕ). map_decoding (λ ws. s.front ++ ws) (items_at k reader bytes walk to m)) l
 
     some_left : (left : ℕ) → s.left ≡ left → (less : ℕ) × (left ≡ suc less)
     some_left zero e = absurd (omega (arith, s.enough, e))
     some_left (suc less) e = (less, refl)
 
-    pub walk_fails : (e : Fault) (old new : Walk) → Walks (Err e) old new (next_item walk bytes to m) → Gathers (λ (v : Vec X). map view v.items) (Err e) all
-    walk_fails fault.Need old new w = let k = some_left s.left refl in at_step k.0 k.1 (Failed Need) w.0
-    walk_fails (fault.Malformed kind at) old new w = let k = some_left s.left refl in at_step k.0 k.1 (Failed (Malformed kind at)) w.0
-    walk_fails fault.NoMemory old new w = absurd w
+    pub walk_fails : (L : Type 0) (e : Fault) (old new : Walk) → Walks (Err e) old new (next_item walk bytes to m) → Failing L e all
+    walk_fails L e old new w =
+        let k = some_left s.left refl in
+        let f : Failing L e (next_item walk bytes to m) = fails_to_go_on L e old new (next_item walk bytes to m) w in
+        rw (at_step k.0 k.1) (fails_mapped L (λ ws. s.front ++ ws) e (next_item walk bytes to m >>= items_from reader (items_at k.0 reader bytes)) (fails_then L (items_from reader (items_at k.0 reader bytes)) e (next_item walk bytes to m) f))
 
-    pub ends : (next : ℕ) (after : Meter) → next_item walk bytes to m ≡ Complete None next after → all ≡ Complete (map view front) next after
-    ends next after e = let k = some_left s.left refl in at_step k.0 k.1 (Complete None next after) e ∙ ap (λ (l : List A). Complete l next after) (append-nil (map view front))
+    pub ends : (next : ℕ) (after : Meter) → next_item walk bytes to m ≡ Complete None next after → all ≡ Complete s.front next after
+    ends next after e =
+        let k = some_left s.left refl in
+        at_step k.0 k.1 ∙ ap (λ (x : Decoding (Option Walk)). map_decoding (λ ws. s.front ++ ws) (x >>= items_from reader (items_at k.0 reader bytes))) e ∙ ap (λ (l : List A). Complete l next after) (append-nil s.front)
 
     module _ (new : Walk) (next : ℕ) (after : Meter) (step : next_item walk bytes to m ≡ Complete (Some new) next after) where
-      at_item : (left : ℕ) → s.left ≡ suc left → (x : Decoding A) → reader next after ≡ x → all ≡ map_decoding (λ ws. map view front ++ ws) (x >>= λ v to after. map_decoding (λ vs. v ∷ vs) (items_at left reader bytes new to after))
-      at_item left l x e = at_step left l (Complete (Some new) next after) step ∙ ap (λ (y : Decoding A). map_decoding (λ ws. map view front ++ ws) (y >>= λ v to after. map_decoding (λ vs. v ∷ vs) (items_at left reader bytes new to after))) e
+      at_item : (left : ℕ) → s.left ≡ suc left → all ≡ map_decoding (λ ws. s.front ++ ws) (reader next after >>= λ v to after. map_decoding (λ vs. v ∷ vs) (items_at left reader bytes new to after))
+      at_item left l = at_step left l ∙ ap (λ (x : Decoding (Option Walk)). map_decoding (λ ws. s.front ++ ws) (x >>= items_from reader (items_at left reader bytes))) step
 
-      pub item_fails : (e : Fault) → Gathers view (Err e) (reader next after) → Gathers (λ (v : Vec X). map view v.items) (Err e) all
-      item_fails fault.Need r = let k = some_left s.left refl in at_item k.0 k.1 (Failed Need) r
-      item_fails (fault.Malformed kind at) r = let k = some_left s.left refl in at_item k.0 k.1 (Failed (Malformed kind at)) r
-      item_fails fault.NoMemory r = tt
+      pub item_fails : (L : Type 0) (e : Fault) → Failing L e (reader next after) → Failing L e all
+      item_fails L e f =
+          let k = some_left s.left refl in
+          rw (at_item k.0 k.1) (fails_mapped L (λ ws. s.front ++ ws) e (reader next after >>= λ v to after. map_decoding (λ vs. v ∷ vs) (items_at k.0 reader bytes new to after)) (fails_then L (λ v to after. map_decoding (λ vs. v ∷ vs) (items_at k.0 reader bytes new to after)) e (reader next after) f))
 
-      pub goes_on : (x : X) (end : ℕ) (last : Meter) → m.units < MOST_UNITS → m.units + 1 ≤ last.units → reader next after ≡ Complete (view x) end last → SoFar new (front ++ x ∷ []) end last
-      goes_on x end last few more e =
+      pub goes_on : (v : A) (end : ℕ) (last : Meter) → reader next after ≡ Complete v end last → m.units < MOST_UNITS → m.units + 1 ≤ last.units → (grown : G) → (holds group s.front → holds grown (s.front ++ v ∷ [])) → SoFar new grown end last
+      goes_on v end last e few counted grown h =
           let k = some_left s.left refl in
           record {
             left = k.0;
-            enough = omega (arith, s.enough, k.1, few, more);
+            enough = omega (arith, s.enough, k.1, few, counted);
+            front = s.front ++ v ∷ [];
+            held = h s.held;
             same =
-                ap (λ (l : List A). map_decoding (λ ws. l ++ ws) (items_at k.0 reader bytes new end last)) (map-append view front (x ∷ []))
-                ∙ map_after (map view front) (view x ∷ []) (items_at k.0 reader bytes new end last) ∙ sym (at_item k.0 k.1 (Complete (view x) end last) e);
+                map_after s.front (v ∷ []) (items_at k.0 reader bytes new end last)
+                ∙ sym (at_item k.0 k.1 ∙ ap (λ (x : Decoding A). map_decoding (λ ws. s.front ++ ws) (x >>= λ v to after. map_decoding (λ vs. v ∷ vs) (items_at k.0 reader bytes new to after))) e);
           }
 
-pub starts : {X A : Type 0} (view : X → A) (reader : Reader A) (bytes : List ℕ) (walk : Walk) (at : ℕ) (m : Meter) → SoFar view reader bytes (items_at (steps_left m) reader bytes walk at m) walk [] at m
-starts view reader bytes walk at m = record { left = steps_left m; enough = omega arith; same = map_none (items_at (steps_left m) reader bytes walk at m) }
-
--- ---- skipping: the same, less the values
-
-pub less_mapped : {A B : Type 0} (f : A → B) (x : Decoding A) → skipped (map_decoding f x) ≡ skipped x
-less_mapped f (Complete v to m) = refl
-less_mapped f (Failed defect) = refl
-
-module _ {A : Type 0} (reader : Reader A) (bytes : List ℕ) (all : Result (ℕ × Meter) Fault) where
-  pub record Skipped (walk : Walk) (to : ℕ) (m : Meter) : Type 0 where
-    pub left : ℕ
-    pub enough : MOST_UNITS - m.units < left
-    pub same : skipped (items_at left reader bytes walk to m) ≡ all
-
-  module _ (walk : Walk) (to : ℕ) (m : Meter) (s : Skipped walk to m) where
-    skip_step : (left : ℕ) → s.left ≡ suc left → (step : Decoding (Option Walk)) → next_item walk bytes to m ≡ step → all ≡ skipped (step >>= items_from reader (items_at left reader bytes))
-    unfolding items_at
-    skip_step left l step e =
-        sym s.same ∙ ap (λ (k : ℕ). skipped (items_at k reader bytes walk to m)) l ∙ ap (λ (x : Decoding (Option Walk)). skipped (x >>= items_from reader (items_at left reader bytes))) e
-
-    steps : (left : ℕ) → s.left ≡ left → (less : ℕ) × (left ≡ suc less)
-    steps zero e = absurd (omega (arith, s.enough, e))
-    steps (suc less) e = (less, refl)
-
-    pub skip_walk_fails : (e : Fault) (old new : Walk) → Walks (Err e) old new (next_item walk bytes to m) → Err e ≡ all
-    skip_walk_fails fault.Need old new w = let k = steps s.left refl in sym (skip_step k.0 k.1 (Failed Need) w.0)
-    skip_walk_fails (fault.Malformed kind at) old new w = let k = steps s.left refl in sym (skip_step k.0 k.1 (Failed (Malformed kind at)) w.0)
-    skip_walk_fails fault.NoMemory old new w = absurd w
-
-    pub skip_ends_at : (next : ℕ) (after : Meter) → next_item walk bytes to m ≡ Complete None next after → Ok (next, after) ≡ all
-    skip_ends_at next after e = let k = steps s.left refl in sym (skip_step k.0 k.1 (Complete None next after) e)
-
-    module _ (new : Walk) (next : ℕ) (after : Meter) (step : next_item walk bytes to m ≡ Complete (Some new) next after) where
-      skip_item : (left : ℕ) → s.left ≡ suc left → (x : Decoding A) → reader next after ≡ x → all ≡ skipped (x >>= λ v to after. map_decoding (λ vs. v ∷ vs) (items_at left reader bytes new to after))
-      skip_item left l x e = skip_step left l (Complete (Some new) next after) step ∙ ap (λ (y : Decoding A). skipped (y >>= λ v to after. map_decoding (λ vs. v ∷ vs) (items_at left reader bytes new to after))) e
-
-      failed : (x : Decoding A) (e : Fault) (left : ℕ) → Err e ≡ skipped x → Err e ≡ skipped (x >>= λ v to after. map_decoding (λ vs. v ∷ vs) (items_at left reader bytes new to after))
-      failed (Complete v to m) e left h = absurd cc
-      failed (Failed defect) e left h = h
-
-      pub skip_item_fails : (e : Fault) → Err e ≡ skipped (reader next after) → Err e ≡ all
-      skip_item_fails e h = let k = steps s.left refl in failed (reader next after) e k.0 h ∙ sym (skip_item k.0 k.1 (reader next after) refl)
-
-      pub skip_goes_on : (v : A) (end : ℕ) (last : Meter) → m.units < MOST_UNITS → m.units + 1 ≤ last.units → reader next after ≡ Complete v end last → Skipped new end last
-      skip_goes_on v end last few more e =
-          let k = steps s.left refl in
-          record {
-            left = k.0;
-            enough = omega (arith, s.enough, k.1, few, more);
-            same = sym (less_mapped (λ vs. v ∷ vs) (items_at k.0 reader bytes new end last)) ∙ sym (skip_item k.0 k.1 (Complete v end last) e);
-          }
-
-pub skip_starts : {A : Type 0} (reader : Reader A) (bytes : List ℕ) (walk : Walk) (at : ℕ) (m : Meter) → Skipped reader bytes (skipped (items_at (steps_left m) reader bytes walk at m)) walk at m
-skip_starts reader bytes walk at m = record { left = steps_left m; enough = omega arith; same = refl }
+-- none of the blocks at an offset, whose walk has begun
+pub starts : {G A : Type 0} (holds : G → List A → Type 0) (reader : Reader A) (bytes : List ℕ) (at : ℕ) (m within : Meter) (walk : Walk) (group : G) → opened_blocks at m ≡ Ok within → walk ≡ first_walk at → holds group [] → SoFar holds reader bytes (blocks_at reader bytes at m) walk group at within
+starts holds reader bytes at m within walk group o w h = record {
+  left = steps_left within;
+  enough = omega arith;
+  front = [];
+  held = h;
+  same =
+      map_none (items_at (steps_left within) reader bytes walk at within)
+      ∙ ap (λ (x : Walk). items_at (steps_left within) reader bytes x at within) w
+      ∙ sym (ap (λ (r : Result Meter Fault). inside r (λ within. items_at (steps_left within) reader bytes (first_walk at) at within)) o);
+}

@@ -1,12 +1,12 @@
 pub mod ByKind
 pub mod Counts
 pub mod Fields
+pub mod Gathering
 pub mod Items
 pub mod Lacking
-pub mod LessValue
 pub mod OfType
 pub mod OnePayload
 pub mod Payloads
 pub mod ShortestForm
-pub mod Skips
+pub mod Walked
 pub mod Written

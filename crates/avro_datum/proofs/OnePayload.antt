@@ -18,7 +18,7 @@ use Rattle.avro_datum.specs.Laws.Told.{datum_told}
 use Rattle.avro_datum.specs.Laws.OneForm.{datum_one_form}
 use Rattle.avro_datum.specs.Laws.Sound.{datum_sound}
 use Rattle.avro_datum.proofs.Payloads.{is_whole, is_trailing, is_truncated, is_malformed}
-use Rattle.avro_bytes.specs.Decoding.{Complete, Decoding, Failed}
+use Rattle.spec_decoding.specs.Decoding.{Complete, Decoding, Failed}
 use Rattle.spec_avro.specs.Defect.{Malformed, Need}
 
 abbrev pub units_after : Datum → Meter

@@ -13,7 +13,7 @@ use Rattle.spec_avro.specs.Payload.{IsPayload}
 use Rattle.spec_avro.specs.Spelling.{Spells, Fits, depth_of, units_of}
 use Rattle.avro_datum.specs.Laws.Defects.{datum_defect}
 use Rattle.avro_datum.specs.Laws.Sound.{datum_sound}
-use Rattle.avro_bytes.specs.Decoding.{Complete, Decoding, Failed}
+use Rattle.spec_decoding.specs.Decoding.{Complete, Decoding, Failed}
 use Rattle.spec_avro.specs.Defect.{Malformed, Need}
 use Rattle.avro_bytes.specs.Fault.{HasDefect}
 

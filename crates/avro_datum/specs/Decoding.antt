@@ -4,16 +4,17 @@ use Rattle.spec_avro.specs.declared.malformed.MalformedKind.TheVariants.{BadEnum
 use Rattle.spec_avro.specs.declared.meter.Meter.{Meter}
 use Rattle.spec_avro.specs.declared.limits.TheConstants.{MOST_DEPTH}
 use Rattle.avro_bytes.specs.Blob.{fixed_at, content_at}
-use Rattle.avro_bytes.specs.Boolean.{boolean_at}
-use Rattle.avro_bytes.specs.Meter.{opened_record}
+use Rattle.spec_decoding.specs.BooleanDecoding.{boolean_at}
+use Rattle.spec_decoding.specs.Opening.{opened_record}
 use Rattle.spec_avro.specs.Number.{int_limit, long_limit}
-use Rattle.avro_bytes.specs.NumberDecoding.{number_at}
+use Rattle.spec_decoding.specs.NumberDecoding.{number_at}
 use Rattle.avro_bytes.specs.Text.{text_at}
 use Rattle.spec_avro.specs.Node.{Node, FieldNode, NullNode, BooleanNode, IntNode, LongNode, BytesNode, TextNode, FixedNode, EnumNode, ArrayNode, MapNode, UnionNode, RecordNode}
 use Rattle.spec_avro.specs.Datum.{Datum, Data, Pairs, NullDatum, BooleanDatum, IntDatum, LongDatum, BytesDatum, TextDatum, FixedDatum, EnumDatum, ArrayDatum, MapDatum, UnionDatum, RecordDatum, no_more, more, no_pairs, pair}
 use Rattle.avro_datum.specs.ItemDecoding.{Reader, blocks_at}
-use Rattle.avro_bytes.specs.Position.{position_at}
-use Rattle.avro_bytes.specs.Decoding.{Complete, Decoding, Failed, inside, map_decoding, ◌>>=◌}
+use Rattle.spec_decoding.specs.PositionDecoding.{position_at}
+use Rattle.spec_decoding.specs.Decoding.{Complete, Decoding, Failed, inside, ◌>>=◌}
+use Rattle.avro_bytes.specs.Decoding.{map_decoding}
 use Rattle.spec_avro.specs.Defect.{Need}
 
 -- what decodes a datum of a node at an offset

@@ -1,11 +1,12 @@
 -- Decoding the items of an array or the pairs of a map, one by one (Avro 1.11, "Binary Encoding", arrays and maps).
 use Rattle.std.specs.Prelude.{ℕ, zero, suc, ◌-◌, List, [], ◌∷◌, Option, Some, None}
-use Rattle.avro_bytes.specs.Walk.{Walk, first_walk}
+use Rattle.spec_decoding.specs.Walk.{Walk, first_walk}
 use Rattle.spec_avro.specs.declared.meter.Meter.{Meter}
 use Rattle.spec_avro.specs.declared.limits.TheConstants.{MOST_UNITS}
-use Rattle.avro_bytes.specs.BlockDecoding.{next_item}
-use Rattle.avro_bytes.specs.Meter.{opened_blocks}
-use Rattle.avro_bytes.specs.Decoding.{Complete, Decoding, Failed, inside, map_decoding, ◌>>=◌}
+use Rattle.spec_decoding.specs.BlockDecoding.{next_item}
+use Rattle.spec_decoding.specs.Opening.{opened_blocks}
+use Rattle.spec_decoding.specs.Decoding.{Complete, Decoding, Failed, inside, ◌>>=◌}
+use Rattle.avro_bytes.specs.Decoding.{map_decoding}
 use Rattle.spec_avro.specs.Defect.{Need}
 
 -- what decodes an item at an offset

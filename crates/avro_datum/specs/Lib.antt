@@ -5,4 +5,5 @@ pub mod Laws
 pub mod Memory
 pub mod Payload
 pub mod View
+pub mod Walking
 pub mod Writing

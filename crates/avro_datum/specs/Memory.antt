@@ -1,6 +1,7 @@
 -- Where reading a datum of a node may run out of memory. This project's own rules: the standard says nothing of memory.
 use Rattle.std.specs.Prelude.{◌≡◌, ◌⊎◌, ℕ, List, Option, Some, None, slice_get, Bool, true, false}
-use Rattle.avro_bytes.specs.Decoding.{Decoding, IsComplete}
+use Rattle.spec_decoding.specs.Decoding.{Decoding}
+use Rattle.avro_bytes.specs.Decoding.{IsComplete}
 use Rattle.spec_avro.specs.Datum.{Datum}
 use Rattle.spec_avro.specs.Node.{Node, BytesNode, TextNode, FixedNode, ArrayNode, MapNode, UnionNode, RecordNode}
 

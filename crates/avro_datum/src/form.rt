@@ -2,8 +2,7 @@
 
 ghost use Rattle.std.specs.Prelude.{◌≡◌, ◌<◌, length};
 
-use crate::reading::read_node;
-use crate::skipping::skip_node;
+use crate::walking::{read_node, skip_node};
 use avro_bytes::{Fault, Meter, WireForm};
 use avro_types::{Datum, Nodes};
 use std::alloc::Global;

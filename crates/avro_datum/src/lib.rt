@@ -3,13 +3,13 @@
 //! Data by a schema: reading, skipping and writing them (Avro 1.11 Specification, "Binary Encoding").
 #![tactic(auto)]
 
-mod block_cursor;
 mod form;
 mod laws;
 mod leaf;
+mod parts;
 mod payload;
-mod reading;
-mod skipping;
+mod sink;
+mod walking;
 mod writing;
 
 pub use form::NodeForm;

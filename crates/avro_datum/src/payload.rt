@@ -2,7 +2,7 @@
 
 ghost use Rattle.avro_datum.specs.Payload.{ReadsAll};
 
-use crate::reading::read_node;
+use crate::walking::read_node;
 use avro_bytes::{Fault, MalformedKind, Meter};
 use avro_types::{Datum, Nodes};
 use std::alloc::Global;

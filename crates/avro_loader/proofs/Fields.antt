@@ -5,13 +5,13 @@ use Rattle.std.proofs.lemmas.List.Concat.{flat_map-cons}
 use Rattle.std.specs.List.{flat_map, AllByRecursion}
 use Rattle.std.specs.Int.{w32}
 use Rattle.avro_loader.specs.ImageReading.{◌>>=◌, Read, place, number_at}
-use Rattle.avro_loader.specs.Spelling.{long}
+use Rattle.spec_machine.specs.ImageSpelling.{long}
 use Rattle.avro_loader.specs.declared.image_fault.ImageFault.TheVariants.{TooLarge}
 use Rattle.avro_loader.specs.declared.version.Format.{Format}
 use Rattle.avro_loader.proofs.Spelled.{longs}
 use Rattle.avro_loader.proofs.Steps.{bind_ok, unless, ok_is}
 use Rattle.avro_loader.proofs.Taking.{IsBytes, Takes, Takes-then, Reads}
-use Rattle.avro_loader.specs.Image.{section}
+use Rattle.spec_machine.specs.Image.{section}
 use Rattle.avro_loader.specs.Reading.{count_at, section_at, things_at}
 
 -- ---- n things

@@ -4,35 +4,36 @@ use Rattle.std.proofs.lemmas.List.{append-nil}
 use Rattle.std.specs.Prelude.{IfOk, IsOk, codes}
 use Rattle.std.specs.List.{flat_map, AllByRecursion}
 use Rattle.spec_avro.specs.declared.mismatch.Mismatch.{Mismatch}
-use Rattle.isa.specs.declared.entry.Entry.{Entry}
-use Rattle.isa.specs.declared.entry.Entry.TheVariants as entries
-use Rattle.isa.specs.declared.instr.Instr.{Instr}
-use Rattle.isa.specs.declared.instr.Instr.TheVariants as op
-use Rattle.isa.specs.declared.limits.TheConstants.{MOST_CONSTANT_BYTES, MOST_ENTRIES, MOST_TABLES}
-use Rattle.isa.specs.declared.program.ProgramError.{ProgramError}
-use Rattle.isa.specs.declared.range.Sizes.{Sizes}
-use Rattle.isa.specs.Judging.{first_error, judged}
-use Rattle.isa.specs.Lists.{total_length}
-use Rattle.isa.specs.Program.{Program}
-use Rattle.isa.specs.Range.{EntryIsInRange, InstrIsInRange, IsAddress, IsProgram, MissIsInRange, sizes_of}
+use Rattle.spec_machine.specs.declared.entry.Entry.{Entry}
+use Rattle.spec_machine.specs.declared.entry.Entry.TheVariants as entries
+use Rattle.spec_machine.specs.declared.instr.Instr.{Instr}
+use Rattle.spec_machine.specs.declared.instr.Instr.TheVariants as op
+use Rattle.spec_machine.specs.declared.limits.TheConstants.{MOST_CONSTANT_BYTES, MOST_ENTRIES, MOST_TABLES}
+use Rattle.spec_machine.specs.declared.program_error.ProgramError.{ProgramError}
+use Rattle.spec_machine.specs.declared.sizes.Sizes.{Sizes}
+use Rattle.spec_machine.specs.Judging.{first_error, judged}
+use Rattle.spec_machine.specs.Lengths.{total_length}
+use Rattle.spec_machine.specs.Program.{Program}
+use Rattle.spec_machine.specs.Range.{EntryIsInRange, InstrIsInRange, IsAddress, IsProgram, MissIsInRange, sizes_of}
 use Rattle.isa.proofs.Judged.{complete}
-use Rattle.avro_loader.specs.ImageReading.{◌>>=◌, Read, address_at, ended, most_instrs, opened, place}
-use Rattle.avro_loader.specs.Spelling.{long, address, version_byte}
+use Rattle.avro_loader.specs.ImageReading.{◌>>=◌, Read, address_at, ended, opened, place}
+use Rattle.spec_machine.specs.ImageSpelling.{most_instrs, long, address, version_byte}
 use Rattle.avro_loader.specs.declared.image_fault.ImageFault.{ImageFault}
 use Rattle.avro_loader.specs.declared.image_fault.ImageFault.TheVariants.{NoCode, OutOfRange}
 use Rattle.avro_loader.specs.declared.version.Format.{Format}
-use Rattle.avro_loader.specs.declared.version.Version.{Version}
-use Rattle.avro_loader.specs.declared.version.Version.TheVariants.{One, Two}
+use Rattle.spec_machine.specs.declared.version.Version.{Version}
+use Rattle.spec_machine.specs.declared.version.Version.TheVariants.{One, Two}
 use Rattle.avro_loader.proofs.Opened.{ended_ok, opened_again, opened_taken}
 use Rattle.avro_loader.proofs.Spelled.{address_limit, addresses}
 use Rattle.avro_loader.proofs.Steps.{bind_ok, ok_is, unless}
 use Rattle.avro_loader.proofs.Taking.{IsBytes, Takes, Takes-then, Reads}
-use Rattle.avro_loader.specs.Image.{section, First, IsImage, Second, constant, entry, image, instr, miss, sections}
+use Rattle.spec_machine.specs.Image.{section, First, IsImage, Second, constant, entry, image, instr, miss, sections}
 use Rattle.avro_loader.specs.Reading.{count_at, section_at, things_at, Gives, code_at, constants_at, constants_section_at, entry_at, instr_at, miss_at}
 use Rattle.avro_loader.specs.declared.fault.LoadError.{LoadError}
 use Rattle.avro_loader.specs.Loading.{Starts, from_wrong, in_range, jumps_at, loaded, loaded_as, maps_at, misses_at, sections_at, sections_read}
 use Rattle.avro_loader.proofs.Fields.{FitSection, count_again, count_takes, section_reads, things_again, things_take}
 use Rattle.avro_loader.proofs.Things.{EntryFits, InstrFits, MissFits, constants_again, constants_take, entries_read, instrs_read, misses_read}
+use Rattle.avro_bytes.specs.Laws.Plain.{weaker}
 
 -- ---- sections
 
@@ -206,10 +207,6 @@ loaded_as_again f P h fits =
     ∙ ap (λ (o : Option ProgramError). in_range f s.0 (judged_by P o)) (complete P h)
 
 -- ---- what has an image
-
-weaker : {A : Type 0} (Q F : A → Type 0) → ((x : A) → Q x → F x) → (xs : List A) → AllByRecursion Q xs → AllByRecursion F xs
-weaker Q F implies [] h = tt
-weaker Q F implies (x ∷ xs) h = (implies x h.0, weaker Q F implies xs h.1)
 
 tables_fit : {A : Type 0} (Q F : A → Type 0) → ((x : A) → Q x → F x) → (lists : List (List A)) → AllByRecursion (λ list. length list ≤ MOST_ENTRIES) lists → AllByRecursion (AllByRecursion Q) lists
     → AllByRecursion (FitSection MOST_ENTRIES F) lists

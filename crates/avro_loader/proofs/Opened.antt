@@ -4,12 +4,12 @@ use Rattle.std.proofs.lemmas.Bool.{eqb-true}
 use Rattle.std.specs.Prelude.{codes}
 use Rattle.std.specs.Int.{w32}
 use Rattle.avro_loader.specs.ImageReading.{◌>>=◌, Read, number_at, version_at, opened, ended}
-use Rattle.avro_loader.specs.Spelling.{long, version_byte}
+use Rattle.spec_machine.specs.ImageSpelling.{long, version_byte}
 use Rattle.avro_loader.specs.declared.image_fault.ImageFault.TheVariants.{BadMagic}
 use Rattle.avro_loader.specs.declared.head.TheConstants.{MAGIC}
 use Rattle.avro_loader.specs.declared.version.Format.{Format}
-use Rattle.avro_loader.specs.declared.version.Version.{Version}
-use Rattle.avro_loader.specs.declared.version.Version.TheVariants.{One, Two}
+use Rattle.spec_machine.specs.declared.version.Version.{Version}
+use Rattle.spec_machine.specs.declared.version.Version.TheVariants.{One, Two}
 use Rattle.avro_loader.proofs.Spelled.{longs}
 use Rattle.avro_loader.proofs.Steps.{bind_ok, where_true, ok_is}
 use Rattle.avro_loader.proofs.Taking.{IsBytes, IsBytes-rest, Takes, Takes-then}

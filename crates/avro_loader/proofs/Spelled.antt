@@ -5,14 +5,14 @@ use Rattle.std.proofs.lemmas.Bool.{ltb-false, le-ltb}
 use Rattle.std.proofs.lemmas.List.{take_at, drop_at, take-append-drop, length-append, length-take}
 use Rattle.std.proofs.lemmas.Nat.{be_bytes_2, be_bytes_4, from_be_bytes-to_be_bytes_2, from_be_bytes-to_be_bytes_4}
 use Rattle.std.specs.Int.{Width, w16, w32, byte_len, from_be_bytes, to_be_bytes}
-use Rattle.isa.specs.declared.operation.Shape.{Shape}
-use Rattle.isa.specs.declared.operation.Shape.TheVariants as shapes
+use Rattle.spec_machine.specs.declared.operation.Shape.{Shape}
+use Rattle.spec_machine.specs.declared.operation.Shape.TheVariants as shapes
 use Rattle.avro_loader.specs.ImageReading.{number_at, operand_at}
-use Rattle.avro_loader.specs.Spelling.{address_width, operand}
+use Rattle.spec_machine.specs.ImageSpelling.{address_width, operand}
 use Rattle.avro_loader.specs.declared.image_fault.ImageFault.TheVariants.{Truncated}
 use Rattle.avro_loader.specs.declared.version.Format.{Format}
-use Rattle.avro_loader.specs.declared.version.Version.{Version}
-use Rattle.avro_loader.specs.declared.version.Version.TheVariants.{One, Two}
+use Rattle.spec_machine.specs.declared.version.Version.{Version}
+use Rattle.spec_machine.specs.declared.version.Version.TheVariants.{One, Two}
 use Rattle.avro_loader.proofs.Steps.{unless, ok_is}
 use Rattle.avro_loader.proofs.Taking.{IsBytes, IsBytes-take, IsBytes-drop, Takes, Reads}
 

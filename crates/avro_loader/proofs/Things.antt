@@ -9,24 +9,24 @@ use Rattle.spec_avro.specs.MismatchKind.{code_of as code_of_kind}
 use Rattle.spec_avro.specs.declared.mismatch.Mismatch.{Mismatch}
 use Rattle.spec_avro.specs.declared.mismatch.MismatchKind.{MismatchKind}
 use Rattle.spec_avro.specs.declared.mismatch.MismatchKind.TheVariants as kinds
-use Rattle.isa.specs.declared.entry.Entry.{Entry}
-use Rattle.isa.specs.declared.entry.Entry.TheVariants as entries
-use Rattle.isa.specs.declared.instr.Instr.{Instr}
-use Rattle.isa.specs.Lists.{total_length}
-use Rattle.isa.specs.declared.operation.Operation.{Operation}
-use Rattle.isa.specs.declared.operation.Operation.TheVariants as op
-use Rattle.isa.specs.Operation.{at_code, code_of, instr_of, operand_of, operation_of, shape_of}
+use Rattle.spec_machine.specs.declared.entry.Entry.{Entry}
+use Rattle.spec_machine.specs.declared.entry.Entry.TheVariants as entries
+use Rattle.spec_machine.specs.declared.instr.Instr.{Instr}
+use Rattle.spec_machine.specs.Lengths.{total_length}
+use Rattle.spec_machine.specs.declared.operation.Operation.{Operation}
+use Rattle.spec_machine.specs.declared.operation.Operation.TheVariants as op
+use Rattle.spec_machine.specs.Operation.{at_code, code_of, instr_of, operand_of, operation_of, shape_of}
 use Rattle.isa.proofs.Operations.{coded, found, same}
 use Rattle.avro_loader.specs.ImageReading.{◌>>=◌, Read, place, number_at, operand_at}
-use Rattle.avro_loader.specs.Spelling.{short, long, operand}
+use Rattle.spec_machine.specs.ImageSpelling.{short, long, operand}
 use Rattle.avro_loader.specs.declared.image_fault.ImageFault.{ImageFault}
 use Rattle.avro_loader.specs.declared.image_fault.ImageFault.TheVariants.{Truncated, BadByte, TooLarge}
 use Rattle.avro_loader.specs.declared.version.Format.{Format}
-use Rattle.avro_loader.specs.declared.version.Version.{Version}
+use Rattle.spec_machine.specs.declared.version.Version.{Version}
 use Rattle.avro_loader.proofs.Spelled.{shorts, longs, OperandFits, operand_takes, operand_again}
 use Rattle.avro_loader.proofs.Steps.{bind_ok, unless, ok_is}
 use Rattle.avro_loader.proofs.Taking.{IsBytes, IsBytes-drop, IsBytes-rest, Takes, Takes-then, Takes-byte, Reads}
-use Rattle.avro_loader.specs.Image.{constant, entry, instr, miss}
+use Rattle.spec_machine.specs.Image.{constant, entry, instr, miss}
 use Rattle.avro_loader.specs.Reading.{constants_at, entry_at, instr_at, miss_at, constant_at, kind_at, known}
 
 known_ok : {A : Type 0} (at : ℕ) (o : Option A) (x : A) → known at o ≡ Ok x → o ≡ Some x

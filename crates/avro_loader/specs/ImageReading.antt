@@ -1,17 +1,15 @@
 -- What is at the front of an image's bytes, with the first fault that is met. All of this is this project's own.
 use Rattle.std.specs.Prelude.{◌≡◌, ℕ, zero, suc, ◌-◌, List, [], ◌∷◌, length, take, drop, Result, Ok, Err, ⊤, nat_lt, ◌==◌, if◌then◌else◌}
 use Rattle.std.specs.Int.{Width, w16, w32, byte_len, from_be_bytes}
-use Rattle.isa.specs.declared.limits.TheConstants.{MOST_INSTRS}
-use Rattle.isa.specs.declared.operation.Shape.{Shape}
-use Rattle.isa.specs.declared.operation.Shape.TheVariants as shapes
+use Rattle.spec_machine.specs.declared.operation.Shape.{Shape}
+use Rattle.spec_machine.specs.declared.operation.Shape.TheVariants as shapes
 use Rattle.avro_loader.specs.declared.image_fault.ImageFault.{ImageFault}
 use Rattle.avro_loader.specs.declared.image_fault.ImageFault.TheVariants.{BadMagic, BadVersion, Trailing, Truncated}
 use Rattle.avro_loader.specs.declared.head.TheConstants.{MAGIC}
-use Rattle.avro_loader.specs.declared.limits.TheConstants.{MOST_INSTRS_OF_ONE}
 use Rattle.avro_loader.specs.declared.version.Format.{Format}
-use Rattle.avro_loader.specs.declared.version.Version.{Version}
-use Rattle.avro_loader.specs.declared.version.Version.TheVariants.{One, Two}
-use Rattle.avro_loader.specs.Spelling.{address_width}
+use Rattle.spec_machine.specs.declared.version.Version.{Version}
+use Rattle.spec_machine.specs.declared.version.Version.TheVariants.{One, Two}
+use Rattle.spec_machine.specs.ImageSpelling.{address_width}
 
 -- ---- results
 
@@ -67,11 +65,6 @@ unfoldable pub opened : List ℕ → Read Version
 opened bytes = do
   magic ← number_at w32 bytes
   if magic.0 == MAGIC then version_at magic.1 else Err BadMagic
-
--- how many instructions an image may have
-abbrev pub most_instrs : Version → ℕ
-most_instrs One = MOST_INSTRS_OF_ONE
-most_instrs Two = MOST_INSTRS
 
 -- ---- the end
 

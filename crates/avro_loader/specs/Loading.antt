@@ -2,18 +2,18 @@
 use Rattle.std.specs.Prelude.{ℕ, List, [], length, Result, Ok, Err}
 use Rattle.std.specs.Int.{w32}
 use Rattle.spec_avro.specs.declared.mismatch.Mismatch.{Mismatch}
-use Rattle.isa.specs.declared.entry.Entry.{Entry}
-use Rattle.isa.specs.declared.instr.Instr.{Instr}
-use Rattle.isa.specs.declared.limits.TheConstants.{MOST_ENTRIES, MOST_TABLES}
-use Rattle.isa.specs.declared.program.ProgramError.{ProgramError}
-use Rattle.isa.specs.declared.program.ProgramError.TheVariants as wrong
-use Rattle.isa.specs.Judging.{judged}
-use Rattle.isa.specs.Program.{Program}
+use Rattle.spec_machine.specs.declared.entry.Entry.{Entry}
+use Rattle.spec_machine.specs.declared.instr.Instr.{Instr}
+use Rattle.spec_machine.specs.declared.limits.TheConstants.{MOST_ENTRIES, MOST_TABLES}
+use Rattle.spec_machine.specs.declared.program_error.ProgramError.{ProgramError}
+use Rattle.spec_machine.specs.declared.program_error.ProgramError.TheVariants as wrong
+use Rattle.spec_machine.specs.Judging.{judged}
+use Rattle.spec_machine.specs.Program.{Program}
 use Rattle.avro_loader.specs.ImageReading.{◌>>=◌, Read, place, number_at, address_at, opened, ended}
 use Rattle.avro_loader.specs.declared.image_fault.ImageFault.{ImageFault}
 use Rattle.avro_loader.specs.declared.image_fault.ImageFault.TheVariants.{OutOfRange}
 use Rattle.avro_loader.specs.declared.version.Format.{Format}
-use Rattle.avro_loader.specs.Image.{image_of}
+use Rattle.spec_machine.specs.Image.{image_of}
 use Rattle.avro_loader.specs.Reading.{section_at, things_at, code_at, constants_section_at, entry_at, instr_at, miss_at}
 use Rattle.avro_loader.specs.declared.places.Sections.{Sections}
 

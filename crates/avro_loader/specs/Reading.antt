@@ -4,12 +4,13 @@ use Rattle.std.specs.Int.{w16, w32}
 use Rattle.spec_avro.specs.declared.mismatch.Mismatch.{Mismatch}
 use Rattle.spec_avro.specs.declared.mismatch.MismatchKind.{MismatchKind}
 use Rattle.spec_avro.specs.declared.mismatch.MismatchKind.TheVariants as kinds
-use Rattle.isa.specs.declared.entry.Entry.{Entry}
-use Rattle.isa.specs.declared.entry.Entry.TheVariants as entries
-use Rattle.isa.specs.declared.instr.Instr.{Instr}
-use Rattle.isa.specs.declared.limits.TheConstants.{MOST_CONSTANT_BYTES, MOST_TABLES}
-use Rattle.isa.specs.Operation.{at_code, instr_of, shape_of}
-use Rattle.avro_loader.specs.ImageReading.{◌>>=◌, Read, place, number_at, operand_at, most_instrs}
+use Rattle.spec_machine.specs.declared.entry.Entry.{Entry}
+use Rattle.spec_machine.specs.declared.entry.Entry.TheVariants as entries
+use Rattle.spec_machine.specs.declared.instr.Instr.{Instr}
+use Rattle.spec_machine.specs.declared.limits.TheConstants.{MOST_CONSTANT_BYTES, MOST_TABLES}
+use Rattle.spec_machine.specs.Operation.{at_code, instr_of, shape_of}
+use Rattle.avro_loader.specs.ImageReading.{◌>>=◌, Read, place, number_at, operand_at}
+use Rattle.spec_machine.specs.ImageSpelling.{most_instrs}
 use Rattle.avro_loader.specs.declared.image_fault.ImageFault.{ImageFault}
 use Rattle.avro_loader.specs.declared.image_fault.ImageFault.TheVariants.{Truncated, BadByte, TooLarge, NoCode}
 use Rattle.avro_loader.specs.declared.version.Format.{Format}

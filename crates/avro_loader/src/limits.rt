@@ -2,8 +2,7 @@
 
 ghost use Rattle.std.specs.Prelude.{◌≡◌};
 
-/// How many instructions an image of version 1 may have.
-pub const MOST_INSTRS_OF_ONE: usize = 65_536;
+pub use spec_machine::MOST_INSTRS_OF_ONE;
 
 /// The law of what the limit is.
 pub fn limits_are_these()

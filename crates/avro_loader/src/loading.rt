@@ -1,14 +1,15 @@
 //! Loading an image as a program, or its first fault.
 
 ghost use Rattle.std.specs.Prelude.{◌≡◌, IfOk, IsErrOf, IsOk, Ok};
-ghost use Rattle.isa.specs.Program.{Program as Parted, program_of};
-ghost use Rattle.isa.specs.Range.{IsProgram};
+ghost use Rattle.spec_machine.specs.Program.{Program as Parted};
+ghost use Rattle.isa.specs.Program.{program_of};
+ghost use Rattle.spec_machine.specs.Range.{IsProgram};
 ghost use Rattle.avro_loader.specs.ImageReading.{opened};
 ghost use Rattle.avro_loader.specs.declared.fault.LoadError.TheVariants.{NoMemory};
-ghost use Rattle.avro_loader.specs.Image.{IsImage, image_of};
+ghost use Rattle.spec_machine.specs.Image.{IsImage, image_of};
 ghost use Rattle.avro_loader.specs.Loading.{in_range, loaded, loaded_as, migrated, nothing, sections_at, starts_of};
 ghost use Rattle.avro_loader.specs.Reading.{Gives};
-ghost use Rattle.isa.specs.Judging.{judged};
+ghost use Rattle.spec_machine.specs.Judging.{judged};
 
 use crate::fault::LoadError;
 use crate::places::{Sections, from_wrong};

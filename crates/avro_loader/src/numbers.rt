@@ -2,7 +2,7 @@
 
 ghost use Rattle.std.specs.Prelude.{◌≡◌, ◌++◌, OnErr, OnOk};
 ghost use Rattle.std.specs.Int.{w16, w32};
-ghost use Rattle.avro_loader.specs.Spelling.{long, short};
+ghost use Rattle.spec_machine.specs.ImageSpelling.{long, short};
 ghost use Rattle.avro_loader.specs.ImageReading.{Tells, address_at, number_at, operand_at};
 
 use crate::image_fault::ImageFault;

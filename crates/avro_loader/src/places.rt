@@ -1,6 +1,6 @@
 //! Where the sections of an image begin, and which thing of them is out of range.
 
-ghost use Rattle.isa.specs.declared.limits.TheConstants.{MOST_ENTRIES};
+ghost use Rattle.spec_machine.specs.declared.limits.TheConstants.{MOST_ENTRIES};
 ghost use Rattle.avro_loader.specs.Loading.{after, from_wrong, starts_of};
 ghost use Rattle.avro_loader.specs.Reading.{Gives, section_at};
 

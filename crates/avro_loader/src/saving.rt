@@ -1,7 +1,7 @@
 //! Writing the image of a program.
 
 ghost use Rattle.std.specs.Prelude.{◌≡◌, ◌++◌, OnOk, IfOk};
-ghost use Rattle.avro_loader.specs.Image.{constant, image_of, section};
+ghost use Rattle.spec_machine.specs.Image.{constant, image_of, section};
 
 use crate::put_long;
 use crate::thing::Thing;

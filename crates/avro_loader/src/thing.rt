@@ -2,15 +2,15 @@
 
 ghost use Rattle.std.specs.Prelude.{◌≡◌, ◌++◌, ℕ, List, OnOk, Some, None};
 ghost use Rattle.avro_loader.specs.declared.version.Format.{Format};
-ghost use Rattle.avro_loader.specs.declared.version.Version.TheVariants.{Two};
-ghost use Rattle.avro_loader.specs.Spelling.{address};
+ghost use Rattle.spec_machine.specs.declared.version.Version.TheVariants.{Two};
+ghost use Rattle.spec_machine.specs.ImageSpelling.{address};
 ghost use Rattle.avro_loader.specs.ImageReading.{Read, Tells, address_at};
-ghost use Rattle.avro_loader.specs.Image.{entry, miss, instr};
+ghost use Rattle.spec_machine.specs.Image.{entry, miss, instr};
 ghost use Rattle.avro_loader.specs.Reading.{entry_at, miss_at, instr_at, kind_at};
 
 use crate::{Format, ImageFault, address_of, operand_of, put_long, put_short, u16_at};
 use avro_bytes::{Mismatch, MismatchKind};
-use isa::{Entry, Instr, Operation, Shape};
+use isa::{Entry, Instr, Shape, operation_at};
 use std::alloc::AllocError;
 
 /// What a section holds a number of.
@@ -131,7 +131,7 @@ impl Thing for Instr {
         let [first, rest @ ..] = bytes else {
             return Err(ImageFault::Truncated);
         };
-        let Some(operation) = Operation::at_code(*first) else {
+        let Some(operation) = operation_at(*first) else {
             return Err(ImageFault::BadByte(format.place(bytes)));
         };
         let (operand, rest) = operand_of(format, operation.shape(), rest)?;

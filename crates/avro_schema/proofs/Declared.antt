@@ -6,16 +6,16 @@ use Rattle.serde_json.specs.Data.{Data}
 use Rattle.serde_json.specs.Read.{read}
 use Rattle.serde_json.specs.Written.{has_float}
 use Rattle.spec_avro.specs.declared.limits.TheConstants.{MOST_TEXT}
-use Rattle.avro_schema_names.specs.declared.error.SchemaError.{SchemaError}
-use Rattle.avro_schema_names.specs.declared.error.SchemaError.TheVariants.{TooLarge, NotJson, BadNumber, BadDefault}
+use Rattle.spec_schema.specs.declared.schema_error.SchemaError.{SchemaError}
+use Rattle.spec_schema.specs.declared.schema_error.SchemaError.TheVariants.{TooLarge, NotJson, BadNumber, BadDefault}
 use Rattle.avro_schema.specs.Contract.{run}
-use Rattle.avro_schema_names.specs.Fault.{◌>>=◌}
+use Rattle.spec_schema.specs.Steps.{◌>>=◌}
 use Rattle.spec_avro.specs.Datum.{Datum}
-use Rattle.avro_schema.specs.Defaults.{all_defaults, finished, nodes_with}
-use Rattle.avro_schema_names.specs.Draft.{Draft}
-use Rattle.avro_schema.specs.Schema.{schema_of, nodes_in_read, declared}
-use Rattle.avro_schema_names.specs.Names.{null_namespace}
-use Rattle.avro_schema.specs.Walk.{walk, added}
+use Rattle.spec_schema.specs.Defaults.{all_defaults, finished, nodes_with}
+use Rattle.spec_schema.specs.Draft.{Draft}
+use Rattle.spec_schema.specs.Schema.{schema_of, nodes_in_read, declared}
+use Rattle.spec_schema.specs.Names.{null_namespace}
+use Rattle.spec_schema.specs.Walk.{walk, added}
 
 pub too-large : (text : List ℕ) → MOST_TEXT < length text → schema_of text ≡ Err TooLarge
 unfolding schema_of

@@ -8,10 +8,10 @@ use Rattle.serde_json.specs.Data.{Data, Items}
 use Rattle.spec_avro.specs.declared.limits.TheConstants.{MOST_FIXED, MOST_NODES}
 use Rattle.avro_types.specs.Laws.Booleans.{none_some, some_inside}
 use Rattle.spec_avro.specs.Node.{Node, FixedNode, EnumNode, ArrayNode, MapNode, UnionNode}
-use Rattle.avro_schema.specs.Declaring.{DeclareFields, DeclareMembers, Declares, IsPrimitive, a_field, a_fixed, a_map, a_member, a_primitive, a_record, a_reference, a_union, an_array, an_enum, another, no_more_fields, no_more_members, null_type, boolean_type, int_type, long_type, bytes_type, text_type}
-use Rattle.avro_schema_names.specs.Draft.{Draft, Whole, RecordDraft, DraftField}
-use Rattle.avro_schema.specs.Given.{IsDefaultSymbol, IsSize, a_size, no_default, the_symbol}
-use Rattle.avro_schema_names.specs.Head.{Head, NullHead, BooleanHead, IntHead, LongHead, BytesHead, TextHead, ArrayHead, MapHead, UnionHead, Named, head_at, head_of, heads_of, is_same_type, is_union_head}
+use Rattle.spec_schema.specs.Declaring.{DeclareFields, DeclareMembers, Declares, IsPrimitive, a_field, a_fixed, a_map, a_member, a_primitive, a_record, a_reference, a_union, an_array, an_enum, another, no_more_fields, no_more_members, null_type, boolean_type, int_type, long_type, bytes_type, text_type}
+use Rattle.spec_schema.specs.Draft.{Draft, Whole, RecordDraft, DraftField}
+use Rattle.spec_schema.specs.Given.{IsDefaultSymbol, IsSize, a_size, no_default, the_symbol}
+use Rattle.spec_schema.specs.Head.{Head, NullHead, BooleanHead, IntHead, LongHead, BytesHead, TextHead, ArrayHead, MapHead, UnionHead, Named, head_at, head_of, heads_of, is_same_type, is_union_head}
 use Rattle.avro_schema_names.proofs.DraftLists.{get-extended, heads_of-append, length-heads_of}
 use Rattle.avro_schema.proofs.Fits.{AllFrom, DraftFits, Gives, ItemFits, MemberFits, PartFits, all-behind, is_named_there, is_union_there}
 

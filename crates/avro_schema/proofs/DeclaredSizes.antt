@@ -3,14 +3,14 @@ use Rattle.std.proofs.Common.{◌≡◌, ℕ, zero, suc, ◌+◌, List, [], ◌�
 use Rattle.std.specs.List.{AllByRecursion}
 use Rattle.serde_json.specs.Data as json
 use Rattle.spec_avro.specs.Datum.{Datum}
-use Rattle.avro_schema.specs.Defaults.{all_defaults, default_of, field_default, field_defaults, fields_with, node_defaults, node_with, nodes_with}
-use Rattle.avro_schema_names.specs.Draft.{Draft, Whole, RecordDraft, DraftField}
-use Rattle.avro_schema_names.specs.Head.{heads_of}
+use Rattle.spec_schema.specs.Defaults.{all_defaults, default_of, field_default, field_defaults, fields_with, node_defaults, node_with, nodes_with}
+use Rattle.spec_schema.specs.Draft.{Draft, Whole, RecordDraft, DraftField}
+use Rattle.spec_schema.specs.Head.{heads_of}
 use Rattle.spec_avro.specs.Node.{Node, FieldNode, Names, RecordNode}
-use Rattle.avro_schema.specs.Schema.{declared}
+use Rattle.spec_schema.specs.Schema.{declared}
 use Rattle.spec_avro.specs.Sizes.{HasSizesWithin, DefaultsHaveSizesWithin}
-use Rattle.avro_schema_names.specs.Names.{null_namespace}
-use Rattle.avro_schema.specs.Walk.{walk}
+use Rattle.spec_schema.specs.Names.{null_namespace}
+use Rattle.spec_schema.specs.Walk.{walk}
 use Rattle.avro_schema.proofs.DefaultSizes.{default-within}
 use Rattle.avro_schema.proofs.DefaultsRead.{map-inv}
 use Rattle.avro_schema.proofs.FinishedNodes.{in-row, node-finished}

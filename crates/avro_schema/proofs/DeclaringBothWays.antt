@@ -1,10 +1,10 @@
 -- The laws of what a value declares.
 use Rattle.std.proofs.Common.{◌≡◌, ℕ, List, [], length, sym, ap, ◌∙◌, slice_get}
 use Rattle.serde_json.specs.Data.{Data}
-use Rattle.avro_schema_names.specs.Draft.{Draft}
-use Rattle.avro_schema_names.specs.Head.{heads_of}
-use Rattle.avro_schema.specs.Walk.{walk}
-use Rattle.avro_schema.specs.Declaring.{Declares, a_fixed, a_map, a_primitive, a_record, a_reference, a_union, an_array, an_enum, another}
+use Rattle.spec_schema.specs.Draft.{Draft}
+use Rattle.spec_schema.specs.Head.{heads_of}
+use Rattle.spec_schema.specs.Walk.{walk}
+use Rattle.spec_schema.specs.Declaring.{Declares, a_fixed, a_map, a_primitive, a_record, a_reference, a_union, an_array, an_enum, another}
 use Rattle.avro_schema.specs.DeclaringLaws.{DeclaresWhatIsGiven, GivesWhatIsDeclared}
 use Rattle.avro_types.specs.Laws.Booleans.{none_some}
 use Rattle.avro_schema.proofs.DeclaringComplete.{complete}

@@ -4,20 +4,20 @@ use Rattle.std.proofs.lemmas.Bool.{lt-ltb}
 use Rattle.serde_json.specs.Data.{Data, string, array, object, Items, Members}
 use Rattle.serde_json.specs.Find.{get_member}
 use Rattle.spec_avro.specs.declared.limits.TheConstants.{MOST_FIELDS, MOST_NODES}
-use Rattle.avro_schema_names.specs.Attributes.{symbols_of, default_symbol, size_of}
+use Rattle.spec_schema.specs.Attributes.{symbols_of, default_symbol, size_of}
 use Rattle.avro_schema.specs.Contract.{object_walk, field_walk}
-use Rattle.avro_schema_names.specs.Draft.{Draft, Whole, RecordDraft, DraftField, draft_field}
+use Rattle.spec_schema.specs.Draft.{Draft, Whole, RecordDraft, DraftField, draft_field}
 use Rattle.spec_avro.specs.FullNames.{full_name, is_name, namespace_of}
-use Rattle.avro_schema_names.specs.Head.{Head, ArrayHead, MapHead, UnionHead, Named, head_of, heads_of, head_at, are_apart}
-use Rattle.avro_schema_names.specs.Names.{field_name}
+use Rattle.spec_schema.specs.Head.{Head, ArrayHead, MapHead, UnionHead, Named, head_of, heads_of, head_at, are_apart}
+use Rattle.spec_schema.specs.Names.{field_name}
 use Rattle.spec_avro.specs.Node.{Node, Names, ArrayNode, MapNode, UnionNode, EnumNode, FixedNode}
 use Rattle.spec_avro.specs.Symbols.{are_new, is_used}
-use Rattle.avro_schema.specs.Walk.{Walk, around, done, enum_of, field, fields, fields_after, field_of, fixed_of, followed_by, if_room, members, named, record_of, reference, union_of, walk}
+use Rattle.spec_schema.specs.Walk.{Walk, around, done, enum_of, field, fields, fields_after, field_of, fixed_of, followed_by, if_room, members, named, record_of, reference, union_of, walk}
 use Rattle.avro_schema.proofs.Members.{walk-object, field-object}
 use Rattle.avro_schema_names.proofs.DraftLists.{length-heads_of, heads_of-append}
-use Rattle.avro_schema.specs.Given.{AreFieldAliases}
-use Rattle.avro_schema.specs.Declaring.{AreApart, DeclareFields, DeclareMembers, Declares, DefinesNames, HasRoom, IsNoPrimitive, IsNoWord, IsOf, IsPrimitive, a_field, a_fixed, a_map, a_member, a_primitive, a_record, a_reference, a_union, an_array, an_enum, another, no_more_fields, no_more_members}
-use Rattle.avro_schema.specs.Definitions.{AreDefinedOnce, IsDefinedAt}
+use Rattle.spec_schema.specs.Given.{AreFieldAliases}
+use Rattle.spec_schema.specs.Declaring.{AreApart, DeclareFields, DeclareMembers, Declares, DefinesNames, HasRoom, IsNoPrimitive, IsNoWord, IsOf, IsPrimitive, a_field, a_fixed, a_map, a_member, a_primitive, a_record, a_reference, a_union, an_array, an_enum, another, no_more_fields, no_more_members}
+use Rattle.spec_schema.specs.Definitions.{AreDefinedOnce, IsDefinedAt}
 use Rattle.avro_schema.proofs.GivenAttributes.{default_is, field_aliases_are, size_is, symbols_are}
 use Rattle.avro_schema.proofs.Apart.{distinct-new, types-apart}
 use Rattle.avro_schema.proofs.DefinedOnce.{once, once-definition, once-unnamed}

@@ -8,24 +8,24 @@ use Rattle.std.proofs.lemmas.Bool.{ltb-true}
 use Rattle.serde_json.specs.Data.{Data, null, boolean, number, string, array, object, Items, no_items, item, Members, no_members, member}
 use Rattle.serde_json.specs.Find.{get_member}
 use Rattle.spec_avro.specs.declared.limits.TheConstants.{MOST_FIELDS, MOST_NODES}
-use Rattle.avro_schema_names.specs.declared.error.SchemaError.{SchemaError}
-use Rattle.avro_schema_names.specs.declared.error.SchemaError.TheVariants.{TooLarge, BadName, BadUnion}
-use Rattle.avro_schema_names.specs.Attributes.{symbols_of, default_symbol, size_of}
+use Rattle.spec_schema.specs.declared.schema_error.SchemaError.{SchemaError}
+use Rattle.spec_schema.specs.declared.schema_error.SchemaError.TheVariants.{TooLarge, BadName, BadUnion}
+use Rattle.spec_schema.specs.Attributes.{symbols_of, default_symbol, size_of}
 use Rattle.avro_schema.specs.Contract.{object_as, object_walk, field_walk}
-use Rattle.avro_schema_names.specs.Draft.{Draft, Whole, RecordDraft, DraftField, draft_field}
-use Rattle.avro_schema_names.specs.Fault.{◌>>=◌, require}
+use Rattle.spec_schema.specs.Draft.{Draft, Whole, RecordDraft, DraftField, draft_field}
+use Rattle.spec_schema.specs.Steps.{◌>>=◌, require}
 use Rattle.spec_avro.specs.FullNames.{full_name, is_name, namespace_of}
-use Rattle.avro_schema_names.specs.Head.{Head, ArrayHead, MapHead, UnionHead, Named, head_of, heads_of, defined_at, head_at, are_apart}
-use Rattle.avro_schema_names.specs.Names.{field_name}
-use Rattle.avro_schema_names.specs.Aliases.{field_aliases, new_names}
+use Rattle.spec_schema.specs.Head.{Head, ArrayHead, MapHead, UnionHead, Named, head_of, heads_of, defined_at, head_at, are_apart}
+use Rattle.spec_schema.specs.Names.{field_name}
+use Rattle.spec_schema.specs.Aliases.{field_aliases, new_names}
 use Rattle.spec_avro.specs.Node.{Names, ArrayNode, MapNode, UnionNode, EnumNode, FixedNode}
 use Rattle.spec_avro.specs.Symbols.{are_new, is_used}
-use Rattle.avro_schema.specs.Walk.{added as added_to, Walk, apart_union, around, done, enum_of, field, fields, fields_after, field_of, fixed_of, followed_by, found, if_room, members, named, one_node, or_unknown, record_of, reference, union_of, walk}
-use Rattle.avro_schema_names.specs.Word.{form_of}
+use Rattle.spec_schema.specs.Walk.{added as added_to, Walk, apart_union, around, done, enum_of, field, fields, fields_after, field_of, fixed_of, followed_by, found, if_room, members, named, one_node, or_unknown, record_of, reference, union_of, walk}
+use Rattle.spec_schema.specs.Word.{form_of}
 use Rattle.avro_schema.proofs.Members.{walk-object, field-object}
 use Rattle.avro_schema_names.proofs.DraftLists.{length-heads_of, heads_of-append}
-use Rattle.avro_schema.specs.Declaring.{DeclareFields, DeclareMembers, Declares, DefinesNames, HasRoom, IsOf, a_field, a_fixed, a_map, a_member, a_primitive, a_record, a_reference, a_union, an_array, an_enum, another, no_more_fields, no_more_members}
-use Rattle.avro_schema.specs.Given.{AreFieldAliases, IsDefaultSymbol, IsSize, IsSymbols}
+use Rattle.spec_schema.specs.Declaring.{DeclareFields, DeclareMembers, Declares, DefinesNames, HasRoom, IsOf, a_field, a_fixed, a_map, a_member, a_primitive, a_record, a_reference, a_union, an_array, an_enum, another, no_more_fields, no_more_members}
+use Rattle.spec_schema.specs.Given.{AreFieldAliases, IsDefaultSymbol, IsSize, IsSymbols}
 use Rattle.avro_schema.proofs.GivenAttributes.{default_told, field_aliases_told, size_told, symbols_told}
 use Rattle.avro_schema.proofs.Apart.{apart-types, new-distinct}
 use Rattle.avro_schema.proofs.DefinedPlaces.{some_is-defined}

@@ -16,14 +16,15 @@ use Rattle.serde_json.specs.declared.value.Value.{Value}
 use Rattle.avro_types.specs.declared.datum.Datum as rust
 use Rattle.avro_schema_names.specs.declared.draft.Draft as rust_draft
 use Rattle.avro_schema_names.specs.declared.draft.DraftField as rust_field
-use Rattle.avro_schema_names.specs.declared.error.SchemaError.{SchemaError}
-use Rattle.avro_schema_names.specs.declared.error.SchemaError.TheVariants.{BadDefault}
+use Rattle.spec_schema.specs.declared.schema_error.SchemaError.{SchemaError}
+use Rattle.spec_schema.specs.declared.schema_error.SchemaError.TheVariants.{BadDefault}
 use Rattle.avro_types.specs.declared.kind.Kind.{Kind}
 use Rattle.avro_types.specs.declared.kind.Kind.TheVariants as kinds
 use Rattle.spec_avro.specs.Datum.{Datum, ArrayDatum, MapDatum, RecordDatum, UnionDatum, Pairs, more, pair}
 use Rattle.avro_types.specs.Datum.{datum_of, data_of, pairs_of}
-use Rattle.avro_schema.specs.Defaults.{Reading, by_first, at_node, array_value, object_value, leaf_value, default_of, fields_value, items_value, pairs_value, member_value, value_of}
-use Rattle.avro_schema_names.specs.Draft.{Draft, Whole, RecordDraft, DraftField, HasFewSymbols, HaveFewSymbols, draft_field_of, draft_of, drafts_of}
+use Rattle.spec_schema.specs.Defaults.{Reading, by_first, at_node, array_value, object_value, leaf_value, default_of, fields_value, items_value, pairs_value, member_value, value_of}
+use Rattle.spec_schema.specs.Draft.{Draft, Whole, RecordDraft, DraftField}
+use Rattle.avro_schema_names.specs.Draft.{HasFewSymbols, HaveFewSymbols, draft_field_of, draft_of, drafts_of}
 use Rattle.spec_avro.specs.Node.{Node, ArrayNode, MapNode, UnionNode, Names}
 use Rattle.avro_types.specs.Node.{node_of}
 use Rattle.avro_schema.proofs.DefaultValues.{first_datum, first_pair, before-data, before-pairs}

@@ -5,9 +5,9 @@ use Rattle.serde_json.specs.Data as json
 use Rattle.serde_json.specs.Data.{Items, Members}
 use Rattle.spec_avro.specs.Datum.{Datum, Data, Pairs, how_many, how_many_pairs}
 use Rattle.spec_avro.specs.Sizes.{HasSizesWithin, HaveSizesWithin, HavePairsWithin}
-use Rattle.avro_schema.specs.DefaultData.{AreFields, AreItems, ArePairs, IsDefaultAt, IsDefaultOf, array_default, boolean_default, by_first, by_type, bytes_default, enum_default, fixed_default, int_default, long_default, map_default, no_field, no_item, no_pair, null_default, one_field, one_item, one_pair, record_default, text_default}
-use Rattle.avro_schema.specs.Defaults.{default_of}
-use Rattle.avro_schema_names.specs.Draft.{Draft, DraftField}
+use Rattle.spec_schema.specs.DefaultData.{AreFields, AreItems, ArePairs, IsDefaultAt, IsDefaultOf, array_default, boolean_default, by_first, by_type, bytes_default, enum_default, fixed_default, int_default, long_default, map_default, no_field, no_item, no_pair, null_default, one_field, one_item, one_pair, record_default, text_default}
+use Rattle.spec_schema.specs.Defaults.{default_of}
+use Rattle.spec_schema.specs.Draft.{Draft, DraftField}
 use Rattle.avro_schema.proofs.DefaultsRead.{default-read}
 use Rattle.avro_schema.proofs.ReadSizes.{HasDataWithin, HaveItemsWithin, HaveMembersWithin, items_in, members_in}
 use Rattle.avro_schema.proofs.WalkSizes.{found-within}

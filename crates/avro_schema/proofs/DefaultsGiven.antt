@@ -10,9 +10,9 @@ use Rattle.spec_avro.specs.Conforming.{HasBits}
 use Rattle.spec_avro.specs.Datum.{Datum, Data, Pairs, more}
 use Rattle.avro_types.specs.Laws.Booleans.{same_number}
 use Rattle.spec_avro.specs.Node.{EnumNode}
-use Rattle.avro_schema.specs.DefaultData.{AreBytes, AreFields, AreItems, ArePairs, IsDefaultAt, IsDefaultOf, array_default, boolean_default, by_first as by_first_member, by_type, bytes_default, enum_default, fixed_default, int_default, long_default, map_default, no_field, no_item, no_pair, null_default, one_field, one_item, one_pair, record_default, text_default}
-use Rattle.avro_schema.specs.Defaults.{Reading, by_first, bytes_in, default_of, fields_value, has_bits, items_value, member_value, pairs_value, value_of}
-use Rattle.avro_schema_names.specs.Draft.{Draft, Whole, DraftField}
+use Rattle.spec_schema.specs.DefaultData.{AreBytes, AreFields, AreItems, ArePairs, IsDefaultAt, IsDefaultOf, array_default, boolean_default, by_first as by_first_member, by_type, bytes_default, enum_default, fixed_default, int_default, long_default, map_default, no_field, no_item, no_pair, null_default, one_field, one_item, one_pair, record_default, text_default}
+use Rattle.spec_schema.specs.Defaults.{Reading, by_first, bytes_in, default_of, fields_value, has_bits, items_value, member_value, pairs_value, value_of}
+use Rattle.spec_schema.specs.Draft.{Draft, Whole, DraftField}
 use Rattle.avro_schema.proofs.DefaultParts.{member_value-get}
 use Rattle.avro_schema_names.proofs.SymbolPlaces.{place_at}
 

@@ -16,9 +16,9 @@ use Rattle.avro_types.specs.Laws.Booleans.{both, none_some}
 use Rattle.avro_types.specs.Laws.Placed.{place-some}
 use Rattle.spec_avro.specs.Node.{NullNode, BooleanNode, IntNode, LongNode, BytesNode, TextNode, FixedNode, EnumNode, ArrayNode, MapNode, UnionNode}
 use Rattle.spec_avro.specs.Symbols.{place_of}
-use Rattle.avro_schema.specs.DefaultData.{AreBytes, AreFields, AreItems, ArePairs, IsDefaultAt, IsDefaultOf, array_default, boolean_default, by_first as by_first_member, by_type, bytes_default, enum_default, fixed_default, int_default, long_default, map_default, no_field, no_item, no_pair, null_default, one_field, one_item, one_pair, record_default, text_default}
-use Rattle.avro_schema.specs.Defaults.{Reading, array_value, at_node, by_first, bytes_in, default_of, fields_value, fixed_value, has_bits, int_value, items_value, leaf_value, long_value, member_value, number_value, object_value, pairs_value, text_value, value_of}
-use Rattle.avro_schema_names.specs.Draft.{Draft, Whole, RecordDraft, DraftField}
+use Rattle.spec_schema.specs.DefaultData.{AreBytes, AreFields, AreItems, ArePairs, IsDefaultAt, IsDefaultOf, array_default, boolean_default, by_first as by_first_member, by_type, bytes_default, enum_default, fixed_default, int_default, long_default, map_default, no_field, no_item, no_pair, null_default, one_field, one_item, one_pair, record_default, text_default}
+use Rattle.spec_schema.specs.Defaults.{Reading, array_value, at_node, by_first, bytes_in, default_of, fields_value, fixed_value, has_bits, int_value, items_value, leaf_value, long_value, member_value, number_value, object_value, pairs_value, text_value, value_of}
+use Rattle.spec_schema.specs.Draft.{Draft, Whole, RecordDraft, DraftField}
 use Rattle.avro_schema.proofs.DefaultParts.{member_value-get}
 
 -- ---- options that give something

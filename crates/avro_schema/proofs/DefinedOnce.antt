@@ -1,11 +1,12 @@
 -- No full name is defined twice: a definition's is new, and other nodes have none.
 use Rattle.std.proofs.Common.{◌≡◌, ◌≢◌, ℕ, List, [], ◌∷◌, ◌++◌, false, refl, sym, ap, ◌∙◌, subst, append-nil, append_assoc}
 use Rattle.serde_json.specs.Data.{Data, Items}
-use Rattle.avro_schema_names.specs.Draft.{Draft, Whole, RecordDraft, DraftField}
-use Rattle.avro_schema_names.specs.Head.{Head, Named, head_of, head_of_node, is_named_head}
+use Rattle.spec_schema.specs.Draft.{Draft, Whole, RecordDraft, DraftField}
+use Rattle.spec_schema.specs.Head.{Head, Named, head_of, head_of_node}
+use Rattle.avro_schema_names.specs.Head.{is_named_head}
 use Rattle.spec_avro.specs.Node.{Node, ArrayNode, MapNode, UnionNode, EnumNode, FixedNode}
-use Rattle.avro_schema.specs.Declaring.{DeclareFields, DeclareMembers, Declares, IsPrimitive, a_field, a_fixed, a_map, a_member, a_primitive, a_record, a_reference, a_union, an_array, an_enum, another, no_more_fields, no_more_members, null_type, boolean_type, int_type, long_type, bytes_type, text_type}
-use Rattle.avro_schema.specs.Definitions.{AreDefinedOnce, IsNewName}
+use Rattle.spec_schema.specs.Declaring.{DeclareFields, DeclareMembers, Declares, IsPrimitive, a_field, a_fixed, a_map, a_member, a_primitive, a_record, a_reference, a_union, an_array, an_enum, another, no_more_fields, no_more_members, null_type, boolean_type, int_type, long_type, bytes_type, text_type}
+use Rattle.spec_schema.specs.Definitions.{AreDefinedOnce, IsNewName}
 
 new-push : (full : List ℕ) (before : List Draft) (d : Draft) → IsNewName full before → head_of d ≢ Named full → IsNewName full (before ++ d ∷ [])
 new-push full [] d n h = (h, tt)

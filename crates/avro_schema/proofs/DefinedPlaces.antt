@@ -2,10 +2,10 @@
 use Rattle.std.proofs.Common.{◌≡◌, ◌≢◌, ℕ, zero, suc, ◌+◌, List, [], ◌∷◌, Bool, true, false, cond, Some, None, refl, sym, ap, ◌∙◌, arith, subst, true≢false}
 use Rattle.std.specs.List.{position_from}
 use Rattle.std.proofs.lemmas.Slice.Eq.{bytes_eq-Decides}
-use Rattle.avro_schema_names.specs.Draft.{Draft}
-use Rattle.avro_schema_names.specs.Head.{Head, NullHead, BooleanHead, IntHead, LongHead, BytesHead, TextHead, ArrayHead, MapHead, UnionHead, Named, head_of, heads_of, defines, defined_at}
+use Rattle.spec_schema.specs.Draft.{Draft}
+use Rattle.spec_schema.specs.Head.{Head, NullHead, BooleanHead, IntHead, LongHead, BytesHead, TextHead, ArrayHead, MapHead, UnionHead, Named, head_of, heads_of, defines, defined_at}
 use Rattle.avro_types.specs.Laws.Booleans.{some_inside, none_some}
-use Rattle.avro_schema.specs.Definitions.{IsDefinedAt, IsNewName, AreDefinedOnce}
+use Rattle.spec_schema.specs.Definitions.{IsDefinedAt, IsNewName, AreDefinedOnce}
 
 defined_head : (full : List ℕ) (h : Head) → defines full h ≡ true → h ≡ Named full
 defined_head full (Named name) e = ap Named ((bytes_eq-Decides name full).0 e)

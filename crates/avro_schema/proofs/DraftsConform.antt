@@ -8,12 +8,13 @@ use Rattle.avro_schema_names.specs.declared.draft.DraftField as rust_field
 use Rattle.spec_avro.specs.Conforming.{Conforms, DefaultsConform}
 use Rattle.avro_schema.specs.Contract.{run}
 use Rattle.spec_avro.specs.Datum.{Datum}
-use Rattle.avro_schema.specs.Defaults.{all_defaults, default_of, field_default, field_defaults, fields_with, node_defaults, node_with, nodes_with}
-use Rattle.avro_schema_names.specs.Draft.{Draft, Whole, RecordDraft, DraftField, data_at, draft_field_of, draft_of, drafts_of}
-use Rattle.avro_schema_names.specs.Head.{heads_of}
+use Rattle.spec_schema.specs.Defaults.{all_defaults, default_of, field_default, field_defaults, fields_with, node_defaults, node_with, nodes_with}
+use Rattle.spec_schema.specs.Draft.{Draft, Whole, RecordDraft, DraftField}
+use Rattle.avro_schema_names.specs.Draft.{data_at, draft_field_of, draft_of, drafts_of}
+use Rattle.spec_schema.specs.Head.{heads_of}
 use Rattle.spec_avro.specs.Node.{FieldNode, Names, RecordNode}
-use Rattle.avro_schema_names.specs.Names.{null_namespace}
-use Rattle.avro_schema.specs.Walk.{walk}
+use Rattle.spec_schema.specs.Names.{null_namespace}
+use Rattle.spec_schema.specs.Walk.{walk}
 use Rattle.avro_schema.proofs.DefaultsConform.{default-conforms}
 use Rattle.avro_schema.proofs.DefaultsRead.{map-inv}
 use Rattle.avro_schema.proofs.FinishedNodes.{in-row, node-finished}

@@ -13,23 +13,22 @@ use Rattle.serde_json.specs.Read.{read}
 use Rattle.serde_json.specs.Written.{has_float}
 use Rattle.spec_avro.specs.declared.limits.TheConstants.{MOST_FIELDS, MOST_FIXED, MOST_NODES, MOST_SYMBOLS, MOST_TEXT}
 use Rattle.spec_avro.specs.FullNames.{full_name, has_dot, is_full_name, is_name, namespace_of, unqualified}
-use Rattle.spec_avro.specs.Node.{ArrayNode, EnumNode, FixedNode, MapNode, Node, UnionNode}
-use Rattle.avro_types.specs.Node.{names_of}
+use Rattle.spec_avro.specs.Node.{ArrayNode, EnumNode, FixedNode, MapNode, Node, UnionNode, names_of}
 use Rattle.spec_avro.specs.Symbols.{are_distinct, is_used, place_of}
-use Rattle.avro_schema_names.specs.declared.error.SchemaError.{SchemaError}
-use Rattle.avro_schema_names.specs.declared.error.SchemaError.TheVariants.{TooLarge, BadNumber, Unknown, OutOfProfile, BadName, Redefined, BadUnion, BadSymbols, BadDefault, NoMemory}
-use Rattle.avro_schema_names.specs.declared.word.Form.{Form}
-use Rattle.avro_schema_names.specs.declared.word.Form.TheVariants as forms
-use Rattle.avro_schema_names.specs.Aliases.{alias_texts, field_aliases, full_aliases, new_names, type_aliases}
-use Rattle.avro_schema_names.specs.Attributes.{default_symbol, size_of, symbols_of, texts_in, texts_of}
-use Rattle.avro_schema_names.specs.Fault.{◌>>=◌, require}
-use Rattle.avro_schema_names.specs.Names.{field_name, given_namespace, if_new, new_name, null_namespace, own_namespace, text_of}
-use Rattle.avro_schema_names.specs.Word.{form_of, is_left_out, is_primitive, leaf_of, word_of}
-use Rattle.avro_schema_names.specs.Draft.{Draft, Whole, RecordDraft, DraftField, draft_field}
-use Rattle.avro_schema_names.specs.Head.{Head, ArrayHead, MapHead, UnionHead, Named, are_apart, defined_at, head_at, heads_of}
-use Rattle.avro_schema.specs.Walk.{Walk, added, apart_union, around, declared_by, done, enum_of, fault, field, field_of, fields, fields_after, fixed_of, followed_by, found, if_few, if_room, leaf_or_reference, members, named, one_node, or_unknown, record_of, reference, union_of, walk, walk_fields, walk_member}
-use Rattle.avro_schema.specs.Defaults.{finished}
-use Rattle.avro_schema.specs.Schema.{declared, nodes_in, nodes_in_read, schema_of}
+use Rattle.spec_schema.specs.declared.schema_error.SchemaError.{SchemaError}
+use Rattle.spec_schema.specs.declared.schema_error.SchemaError.TheVariants.{TooLarge, BadNumber, Unknown, OutOfProfile, BadName, Redefined, BadUnion, BadSymbols, BadDefault, NoMemory}
+use Rattle.spec_schema.specs.declared.word.Form.{Form}
+use Rattle.spec_schema.specs.declared.word.Form.TheVariants as forms
+use Rattle.spec_schema.specs.Aliases.{alias_texts, field_aliases, full_aliases, new_names, type_aliases}
+use Rattle.spec_schema.specs.Attributes.{default_symbol, size_of, symbols_of, texts_in, texts_of}
+use Rattle.spec_schema.specs.Steps.{◌>>=◌, require}
+use Rattle.spec_schema.specs.Names.{field_name, given_namespace, if_new, new_name, null_namespace, own_namespace, text_of}
+use Rattle.spec_schema.specs.Word.{form_of, is_left_out, is_primitive, leaf_of, word_of}
+use Rattle.spec_schema.specs.Draft.{Draft, Whole, RecordDraft, DraftField, draft_field}
+use Rattle.spec_schema.specs.Head.{Head, ArrayHead, MapHead, UnionHead, Named, are_apart, defined_at, head_at, heads_of}
+use Rattle.spec_schema.specs.Walk.{Walk, added, apart_union, around, declared_by, done, enum_of, fault, field, field_of, fields, fields_after, fixed_of, followed_by, found, if_few, if_room, leaf_or_reference, members, named, one_node, or_unknown, record_of, reference, union_of, walk, walk_fields, walk_member}
+use Rattle.spec_schema.specs.Defaults.{finished}
+use Rattle.spec_schema.specs.Schema.{declared, nodes_in, nodes_in_read, schema_of}
 
 -- it is no want of memory
 record IsOfText {A : Type 0} (r : Result A SchemaError) : Type 0 where

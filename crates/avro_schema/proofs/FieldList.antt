@@ -8,15 +8,16 @@ use Rattle.serde_json.specs.Find.{get, as_object}
 use Rattle.serde_json.specs.View.{view, items_view}
 use Rattle.serde_json.specs.declared.value.Value.{Value}
 use Rattle.spec_avro.specs.declared.limits.TheConstants.{MOST_FIELDS}
-use Rattle.avro_schema_names.specs.declared.error.SchemaError.{SchemaError}
-use Rattle.avro_schema_names.specs.declared.error.SchemaError.TheVariants.{TooLarge}
-use Rattle.avro_schema_names.specs.Aliases.{field_aliases}
+use Rattle.spec_schema.specs.declared.schema_error.SchemaError.{SchemaError}
+use Rattle.spec_schema.specs.declared.schema_error.SchemaError.TheVariants.{TooLarge}
+use Rattle.spec_schema.specs.Aliases.{field_aliases}
 use Rattle.avro_schema.specs.Contract.{run, field_walk}
-use Rattle.avro_schema_names.specs.Fault.{◌>>=◌}
-use Rattle.avro_schema_names.specs.Names.{field_name}
-use Rattle.avro_schema_names.specs.Draft.{Draft, DraftField, field_names, draft_field}
-use Rattle.avro_schema_names.specs.Head.{heads_of}
-use Rattle.avro_schema.specs.Walk.{Walk, added, done, followed_by, or_unknown, field_of, walk, fields_after, field}
+use Rattle.spec_schema.specs.Steps.{◌>>=◌}
+use Rattle.spec_schema.specs.Names.{field_name}
+use Rattle.spec_schema.specs.Draft.{Draft, DraftField, draft_field}
+use Rattle.avro_schema_names.specs.Draft.{field_names}
+use Rattle.spec_schema.specs.Head.{heads_of}
+use Rattle.spec_schema.specs.Walk.{Walk, added, done, followed_by, or_unknown, field_of, walk, fields_after, field}
 use Rattle.avro_schema.proofs.Members.{field-object}
 use Rattle.avro_schema.proofs.Runs.{run-followed_by, run-done, run-mapped}
 

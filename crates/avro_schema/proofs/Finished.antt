@@ -7,14 +7,16 @@ use Rattle.std.proofs.Math.ListN.{drop_of_length-le}
 use Rattle.avro_types.specs.declared.datum.Datum as rust
 use Rattle.avro_schema_names.specs.declared.draft.Draft as rust_draft
 use Rattle.avro_schema_names.specs.declared.draft.DraftField as rust_field
-use Rattle.avro_schema_names.specs.declared.error.SchemaError.{SchemaError}
-use Rattle.avro_schema_names.specs.declared.error.SchemaError.TheVariants.{BadDefault}
+use Rattle.spec_schema.specs.declared.schema_error.SchemaError.{SchemaError}
+use Rattle.spec_schema.specs.declared.schema_error.SchemaError.TheVariants.{BadDefault}
 use Rattle.spec_avro.specs.Datum.{Datum}
 use Rattle.avro_types.specs.Datum.{datum_of}
-use Rattle.avro_schema.specs.Defaults.{all_defaults, field_default, field_defaults, field_with, fields_with, node_defaults, node_with, nodes_with}
-use Rattle.avro_schema_names.specs.Draft.{Draft, data_at, draft_field_of, draft_of, drafts_of}
+use Rattle.spec_schema.specs.Defaults.{all_defaults, field_default, field_defaults, field_with, fields_with, node_defaults, node_with, nodes_with}
+use Rattle.spec_schema.specs.Draft.{Draft}
+use Rattle.avro_schema_names.specs.Draft.{data_at, draft_field_of, draft_of, drafts_of}
 use Rattle.spec_avro.specs.Node.{FieldNode, Node}
 use Rattle.avro_schema.proofs.OneByOne.{before, next, one-on, one-fails}
+use Rattle.avro_schema_names.specs.Laws.Plain.{map-push}
 
 -- ---- a list of what was read
 
@@ -95,7 +97,3 @@ nodes-pairs (p ∷ ps) = ap (λ rest. node_from p ∷ rest) (nodes-pairs ps)
 pub nodes-zipped : (ps : List (rust_draft.Draft × Vec (Option rust.Datum))) (ds : List rust_draft.Draft) (all : List (Vec (Option rust.Datum))) → map (λ p. (p.0, p.1)) ps ≡ zip ds all
     → map node_from ps ≡ nodes_with (drafts_of ds) (map row_of all)
 nodes-zipped ps ds all zipped = nodes-pairs ps ∙ ap (map node_from) zipped ∙ nodes_with-zip ds all
-
-pub map-push : {A B : Type 0} (f : A → B) (xs : List A) (x : A) → map f (xs ++ x ∷ []) ≡ map f xs ++ f x ∷ []
-map-push f [] x = refl
-map-push f (y ∷ xs) x = ap (λ ys. f y ∷ ys) (map-push f xs x)

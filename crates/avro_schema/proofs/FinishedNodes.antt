@@ -1,9 +1,9 @@
 -- A finished node is a draft with the data of its fields' defaults, at the same place.
 use Rattle.std.proofs.Common.{◌≡◌, ℕ, zero, suc, List, [], ◌∷◌, length, Option, Some, None, option_map, option_and_then, slice_get, refl, sym, ap, ◌∙◌}
 use Rattle.spec_avro.specs.Datum.{Datum}
-use Rattle.avro_schema.specs.Defaults.{all_defaults, node_defaults, node_with, nodes_with}
-use Rattle.avro_schema_names.specs.Draft.{Draft, Whole, RecordDraft}
-use Rattle.avro_schema_names.specs.Head.{head_of, head_of_node}
+use Rattle.spec_schema.specs.Defaults.{all_defaults, node_defaults, node_with, nodes_with}
+use Rattle.spec_schema.specs.Draft.{Draft, Whole, RecordDraft}
+use Rattle.spec_schema.specs.Head.{head_of, head_of_node}
 use Rattle.spec_avro.specs.Node.{Node}
 
 -- the node at a place is the draft there, with the data of its fields' defaults

@@ -3,8 +3,8 @@ use Rattle.std.proofs.Common.{◌≡◌, ℕ, suc, ◌+◌, ◌<◌, ◌≤◌, 
 use Rattle.std.specs.List.{AllByRecursion, IsDistinct}
 use Rattle.std.specs.Str.{bytes_eq}
 use Rattle.spec_avro.specs.declared.limits.TheConstants.{MOST_FIELDS, MOST_FIXED, MOST_NODES, MOST_SYMBOLS}
-use Rattle.avro_schema_names.specs.Draft.{Draft, Whole, RecordDraft}
-use Rattle.avro_schema_names.specs.Head.{Head, UnionHead, Named, head_at, is_same_type}
+use Rattle.spec_schema.specs.Draft.{Draft, Whole, RecordDraft}
+use Rattle.spec_schema.specs.Head.{Head, UnionHead, Named, head_at, is_same_type}
 use Rattle.spec_avro.specs.Node.{FixedNode, EnumNode, ArrayNode, MapNode, UnionNode, RecordNode}
 
 abbrev pub is_union_there : Option Head → Bool

@@ -9,15 +9,15 @@ use Rattle.std.proofs.lemmas.Bool.{le-leb, leb-true}
 use Rattle.std.proofs.lemmas.Slice.Eq.{bytes_eq-Decides}
 use Rattle.serde_json.specs.Data.{Data, unsigned, negative, float, null, boolean, number, string, array, object, Items, no_items, item}
 use Rattle.spec_avro.specs.declared.limits.TheConstants.{MOST_FIXED, MOST_SYMBOLS}
-use Rattle.avro_schema_names.specs.declared.error.SchemaError.{SchemaError}
-use Rattle.avro_schema_names.specs.declared.error.SchemaError.TheVariants.{BadName, BadSymbols, TooLarge}
-use Rattle.avro_schema_names.specs.Aliases.{alias_texts, field_aliases, full_aliases, type_aliases}
-use Rattle.avro_schema_names.specs.Attributes.{symbols_of, default_symbol, size_of, texts_in}
-use Rattle.avro_schema_names.specs.Fault.{◌>>=◌, require}
+use Rattle.spec_schema.specs.declared.schema_error.SchemaError.{SchemaError}
+use Rattle.spec_schema.specs.declared.schema_error.SchemaError.TheVariants.{BadName, BadSymbols, TooLarge}
+use Rattle.spec_schema.specs.Aliases.{alias_texts, field_aliases, full_aliases, type_aliases}
+use Rattle.spec_schema.specs.Attributes.{symbols_of, default_symbol, size_of, texts_in}
+use Rattle.spec_schema.specs.Steps.{◌>>=◌, require}
 use Rattle.spec_avro.specs.FullNames.{is_full_name, is_name}
 use Rattle.spec_avro.specs.Symbols.{are_distinct, are_new}
 use Rattle.avro_types.specs.Laws.Booleans.{both, some_inside, none_some}
-use Rattle.avro_schema.specs.Given.{AreFieldAliases, AreTypeAliases, ListsAliases, no_aliases, aliases_of, IsDefaultSymbol, IsSize, IsSymbols, a_size, no_default, the_symbol, texts}
+use Rattle.spec_schema.specs.Given.{AreFieldAliases, AreTypeAliases, ListsAliases, no_aliases, aliases_of, IsDefaultSymbol, IsSize, IsSymbols, a_size, no_default, the_symbol, texts}
 use Rattle.avro_schema.proofs.Apart.{distinct-new, new-distinct}
 use Rattle.avro_schema.proofs.Told.{Told}
 

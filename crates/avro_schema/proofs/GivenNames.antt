@@ -2,21 +2,20 @@
 use Rattle.std.proofs.Common.{◌≡◌, ℕ, List, Bool, true, false, not, ◌&&◌, cond, Option, Some, None, is_none, Result, Ok, Err, refl, ◌∙◌, codes}
 use Rattle.serde_json.specs.Data.{Data, null, boolean, number, string, array, object, Members}
 use Rattle.serde_json.specs.Find.{get_member}
-use Rattle.avro_schema_names.specs.declared.error.SchemaError.{SchemaError}
-use Rattle.avro_schema_names.specs.declared.error.SchemaError.TheVariants.{BadName, Redefined}
-use Rattle.avro_schema_names.specs.Draft.{Draft}
-use Rattle.avro_schema_names.specs.Fault.{◌>>=◌, require}
-use Rattle.avro_schema_names.specs.Head.{Head, heads_of, defined_at}
+use Rattle.spec_schema.specs.declared.schema_error.SchemaError.{SchemaError}
+use Rattle.spec_schema.specs.declared.schema_error.SchemaError.TheVariants.{BadName, Redefined}
+use Rattle.spec_schema.specs.Draft.{Draft}
+use Rattle.spec_schema.specs.Steps.{◌>>=◌, require}
+use Rattle.spec_schema.specs.Head.{Head, heads_of, defined_at}
 use Rattle.spec_avro.specs.FullNames.{has_dot, inside, is_full_name, unqualified}
-use Rattle.avro_schema_names.specs.Names.{new_name, given_namespace, if_new}
-use Rattle.avro_schema_names.specs.Word.{word_of, is_primitive}
-use Rattle.spec_avro.specs.Node.{Names}
-use Rattle.avro_types.specs.Node.{names_of}
-use Rattle.avro_schema_names.specs.Aliases.{new_names, type_aliases}
-use Rattle.avro_schema.specs.Given.{AreTypeAliases}
+use Rattle.spec_schema.specs.Names.{new_name, given_namespace, if_new}
+use Rattle.spec_schema.specs.Word.{word_of, is_primitive}
+use Rattle.spec_avro.specs.Node.{Names, names_of}
+use Rattle.spec_schema.specs.Aliases.{new_names, type_aliases}
+use Rattle.spec_schema.specs.Given.{AreTypeAliases}
 use Rattle.avro_schema.proofs.GivenAttributes.{type_aliases_are, type_aliases_told}
 use Rattle.avro_schema.proofs.Told.{Told}
-use Rattle.avro_schema.specs.Declaring.{DefinesFullName, DefinesNames, GivesFullName, dotted, in_its_own, in_enclosing}
+use Rattle.spec_schema.specs.Declaring.{DefinesFullName, DefinesNames, GivesFullName, dotted, in_its_own, in_enclosing}
 use Rattle.avro_schema.proofs.DefinedPlaces.{new_is-none, none_is-new}
 use Rattle.avro_schema.proofs.WordCases.{no_primitive, no_primitive_is}
 

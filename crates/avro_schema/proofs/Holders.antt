@@ -1,6 +1,7 @@
 -- Arrays and maps have no name, and are seen as such whatever they hold.
 use Rattle.std.proofs.Common.{◌≡◌, ℕ, refl}
-use Rattle.avro_schema_names.specs.Head.{IsUnnamed, head_of_node}
+use Rattle.avro_schema_names.specs.Head.{IsUnnamed}
+use Rattle.spec_schema.specs.Head.{head_of_node}
 use Rattle.avro_schema.specs.Holder.{holder_node}
 use Rattle.avro_schema.specs.declared.holder.Holder.{Holder}
 use Rattle.avro_schema.specs.declared.holder.Holder.TheVariants as holders

@@ -6,14 +6,14 @@ use Rattle.serde_json.specs.Data.{Data, Items, item}
 use Rattle.serde_json.specs.View.{view, items_view}
 use Rattle.serde_json.specs.declared.value.Value.{Value}
 use Rattle.spec_avro.specs.declared.limits.TheConstants.{MOST_NODES}
-use Rattle.avro_schema_names.specs.declared.error.SchemaError.{SchemaError}
-use Rattle.avro_schema_names.specs.declared.error.SchemaError.TheVariants.{BadUnion}
+use Rattle.spec_schema.specs.declared.schema_error.SchemaError.{SchemaError}
+use Rattle.spec_schema.specs.declared.schema_error.SchemaError.TheVariants.{BadUnion}
 use Rattle.avro_schema.specs.Contract.{run}
-use Rattle.avro_schema_names.specs.Draft.{Draft, Whole}
-use Rattle.avro_schema_names.specs.Fault.{◌>>=◌}
-use Rattle.avro_schema_names.specs.Head.{UnionHead, heads_of, head_at, are_apart}
+use Rattle.spec_schema.specs.Draft.{Draft, Whole}
+use Rattle.spec_schema.specs.Steps.{◌>>=◌}
+use Rattle.spec_schema.specs.Head.{UnionHead, heads_of, head_at, are_apart}
 use Rattle.spec_avro.specs.Node.{UnionNode}
-use Rattle.avro_schema.specs.Walk.{Walk, added, done, followed_by, if_room, walk, members, apart_union, union_of}
+use Rattle.spec_schema.specs.Walk.{Walk, added, done, followed_by, if_room, walk, members, apart_union, union_of}
 use Rattle.avro_schema.proofs.FieldList.{behind, behind-one}
 use Rattle.avro_schema_names.proofs.DraftLists.{length-heads_of, heads_of-append}
 use Rattle.avro_schema.proofs.Runs.{run-if_room, run-followed_by, run-done, run-mapped}

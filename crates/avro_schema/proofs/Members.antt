@@ -10,12 +10,12 @@ use Rattle.serde_json.specs.View.{view, number_view}
 use Rattle.serde_json.specs.declared.number.Number.{Number}
 use Rattle.serde_json.specs.declared.value.Value as json
 use Rattle.serde_json.specs.declared.value.Value.{Value, the_lemmas}
-use Rattle.avro_schema_names.specs.declared.error.SchemaError.TheVariants.{Unknown}
+use Rattle.spec_schema.specs.declared.schema_error.SchemaError.TheVariants.{Unknown}
 use Rattle.avro_schema.specs.Contract.{object_as, object_walk, field_walk}
-use Rattle.avro_schema.specs.Walk.{declared_by, walk, walk_member, walk_fields, fields, fields_after, field, fault}
-use Rattle.avro_schema_names.specs.Word.{form_of}
-use Rattle.avro_schema_names.specs.declared.word.Form.{Form}
-use Rattle.avro_schema_names.specs.declared.word.Form.TheVariants as forms
+use Rattle.spec_schema.specs.Walk.{declared_by, walk, walk_member, walk_fields, fields, fields_after, field, fault}
+use Rattle.spec_schema.specs.Word.{form_of}
+use Rattle.spec_schema.specs.declared.word.Form.{Form}
+use Rattle.spec_schema.specs.declared.word.Form.TheVariants as forms
 
 at_order : {A B : Type 0} (f : A → B) (o : Ordering) (a : A) (r : Option A) (s : Option B) → s ≡ option_map f r → match_ordering o s (Some (f a)) s ≡ option_map f (match_ordering o r (Some a) r)
 at_order f Less a r s e = e

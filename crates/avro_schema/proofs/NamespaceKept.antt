@@ -1,13 +1,13 @@
 -- A namespace keeps its number while nodes come.
 use Rattle.std.proofs.Common.{◌≡◌, ℕ, List, [], ◌∷◌, ◌++◌, Some, Result, Ok, Err, slice_get, refl, ap}
 use Rattle.std.specs.Arc.{arc_str_bytes}
-use Rattle.avro_schema_names.specs.declared.error.SchemaError.{SchemaError}
+use Rattle.spec_schema.specs.declared.schema_error.SchemaError.{SchemaError}
 use Rattle.avro_schema_names.specs.declared.namespace.Namespace.{Namespace}
 use Rattle.avro_schema.specs.Contract.{run}
-use Rattle.avro_schema_names.specs.Draft.{Draft}
-use Rattle.avro_schema_names.specs.Head.{head_of, heads_of}
+use Rattle.spec_schema.specs.Draft.{Draft}
+use Rattle.spec_schema.specs.Head.{head_of, heads_of}
 use Rattle.avro_schema_names.specs.Index.{IsNamespaceOf, namespaces_of}
-use Rattle.avro_schema.specs.Walk.{Walk, added}
+use Rattle.spec_schema.specs.Walk.{Walk, added}
 use Rattle.avro_schema_names.proofs.Index.{heads-behind}
 use Rattle.avro_schema_names.proofs.DraftLists.{heads_of-append}
 use Rattle.avro_schema_names.proofs.Namespaces.{namespaces-keep}
@@ -16,7 +16,7 @@ use Rattle.avro_schema_names.proofs.Namespaces.{namespaces-keep}
 pub enclosing-pushed : (enclosing : Namespace) (ks ls : List Draft) (k : Draft) → IsNamespaceOf enclosing ks → ls ≡ ks ++ k ∷ [] → IsNamespaceOf enclosing ls
 enclosing-pushed enclosing ks ls k known e = rw (e, heads-behind ks k) (namespaces-keep (heads_of ks) (head_of k ∷ []) enclosing.number (arc_str_bytes enclosing.text) known)
 
-abbrev all_of : {A : Type 0} → Result (A × List Draft) SchemaError → List Draft
+abbrev pub all_of : {A : Type 0} → Result (A × List Draft) SchemaError → List Draft
 all_of (Ok p) = p.1
 all_of (Err e) = []
 

@@ -2,18 +2,17 @@
 use Rattle.std.proofs.Common.{◌≡◌, ℕ, ◌<◌, List, [], ◌∷◌, ◌++◌, length, Option, Result, Ok, Err, refl, ◌∙◌, set}
 use Rattle.serde_json.specs.Data.{Data}
 use Rattle.spec_avro.specs.declared.limits.TheConstants.{MOST_NODES}
-use Rattle.avro_schema_names.specs.declared.error.SchemaError.{SchemaError}
+use Rattle.spec_schema.specs.declared.schema_error.SchemaError.{SchemaError}
 use Rattle.avro_types.specs.declared.name.Name.{Name}
-use Rattle.avro_schema_names.specs.Attributes.{symbols_of, default_symbol, size_of}
+use Rattle.spec_schema.specs.Attributes.{symbols_of, default_symbol, size_of}
 use Rattle.avro_schema.specs.Contract.{run}
-use Rattle.avro_schema_names.specs.Draft.{Draft, Whole, RecordDraft, DraftField}
-use Rattle.avro_schema_names.specs.Fault.{◌>>=◌}
-use Rattle.avro_schema_names.specs.Head.{Named, heads_of}
+use Rattle.spec_schema.specs.Draft.{Draft, Whole, RecordDraft, DraftField}
+use Rattle.spec_schema.specs.Steps.{◌>>=◌}
+use Rattle.spec_schema.specs.Head.{Named, heads_of}
 use Rattle.spec_avro.specs.FullNames.{namespace_of}
-use Rattle.avro_schema_names.specs.Aliases.{new_names}
-use Rattle.spec_avro.specs.Node.{Names, EnumNode, FixedNode}
-use Rattle.avro_types.specs.Node.{names_of}
-use Rattle.avro_schema.specs.Walk.{Walk, added, if_room, around, one_node, record_of, enum_of, fixed_of, or_unknown}
+use Rattle.spec_schema.specs.Aliases.{new_names}
+use Rattle.spec_avro.specs.Node.{Names, EnumNode, FixedNode, names_of}
+use Rattle.spec_schema.specs.Walk.{Walk, added, if_room, around, one_node, record_of, enum_of, fixed_of, or_unknown}
 use Rattle.avro_schema.proofs.Runs.{run-if_room, closed, unclosed}
 
 -- ---- records

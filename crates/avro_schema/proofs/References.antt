@@ -1,11 +1,11 @@
 -- What a text refers to.
 use Rattle.std.proofs.Common.{◌≡◌, ◌∙◌, ℕ, List, Some, None, Ok, Err, ap, append-nil}
-use Rattle.avro_schema_names.specs.declared.error.SchemaError.TheVariants.{Unknown}
+use Rattle.spec_schema.specs.declared.schema_error.SchemaError.TheVariants.{Unknown}
 use Rattle.avro_schema.specs.Contract.{run}
-use Rattle.avro_schema_names.specs.Draft.{Draft}
-use Rattle.avro_schema_names.specs.Head.{defined_at, heads_of}
+use Rattle.spec_schema.specs.Draft.{Draft}
+use Rattle.spec_schema.specs.Head.{defined_at, heads_of}
 use Rattle.spec_avro.specs.FullNames.{full_name}
-use Rattle.avro_schema.specs.Walk.{added, found, reference}
+use Rattle.spec_schema.specs.Walk.{added, found, reference}
 
 pub refers : (text enclosing : List ℕ) (ns : List Draft) (n : ℕ) → defined_at (full_name enclosing text) (heads_of ns) ≡ Some n → run (reference text) enclosing ns ≡ Ok (n, ns)
 unfolding reference run

@@ -4,14 +4,15 @@ use Rattle.std.proofs.Common.{◌≡◌, ℕ, ◌<◌, ◌≤◌, List, [], ◌�
 use Rattle.std.proofs.lemmas.Bool.{lt-ltb, le-ltb}
 use Rattle.std.proofs.Math.Seq.{set-append_seam}
 use Rattle.spec_avro.specs.declared.limits.TheConstants.{MOST_NODES}
-use Rattle.avro_schema_names.specs.declared.error.SchemaError.{SchemaError}
-use Rattle.avro_schema_names.specs.declared.error.SchemaError.TheVariants.{TooLarge}
+use Rattle.spec_schema.specs.declared.schema_error.SchemaError.{SchemaError}
+use Rattle.spec_schema.specs.declared.schema_error.SchemaError.TheVariants.{TooLarge}
 use Rattle.avro_schema.specs.Contract.{run}
-use Rattle.avro_schema_names.specs.Fault.{◌>>=◌}
-use Rattle.avro_schema_names.specs.Draft.{Draft, Whole}
-use Rattle.avro_schema_names.specs.Head.{head_of, heads_of}
+use Rattle.spec_schema.specs.Steps.{◌>>=◌}
+use Rattle.spec_schema.specs.Draft.{Draft, Whole}
+use Rattle.spec_schema.specs.Head.{head_of, heads_of}
 use Rattle.spec_avro.specs.Node.{Node}
-use Rattle.avro_schema.specs.Walk.{Walk, added, one_node, done, followed_by, fault, leaf, if_room, around}
+use Rattle.spec_schema.specs.Walk.{Walk, added, one_node, done, followed_by, fault, leaf, if_room, around}
+use Rattle.avro_schema.proofs.NamespaceKept.{all_of}
 
 pub run-fault : {A : Type 0} (e : SchemaError) (enclosing : List ℕ) (ns : List Draft) → run (fault {A = A} e) enclosing ns ≡ Err e
 unfolding run
@@ -57,10 +58,6 @@ run-mapped w f enclosing ns = run-followed_by w _ enclosing ns ∙ mapped_at f e
 
 ok_err : {A : Type 0} (x : SchemaError) (a : A) → Err x ≡ Ok a → ⊥
 ok_err x a e = cc
-
-abbrev all_of : {A : Type 0} → Result (A × List Draft) SchemaError → List Draft
-all_of (Ok p) = p.1
-all_of (Err e) = []
 
 -- a node that was put there before is there after
 head-kept : (ns : List Draft) (held : Draft) (more : List Draft) → slice_get (heads_of ((ns ++ held ∷ []) ++ more)) (length ns) ≡ Some (head_of held)

@@ -7,18 +7,19 @@ use Rattle.serde_json.specs.Written.{has_float}
 use Rattle.spec_avro.specs.declared.limits.TheConstants.{MOST_TEXT}
 use Rattle.spec_avro.specs.Datum.{Datum}
 use Rattle.spec_avro.specs.Node.{Node, FieldNode, EnumNode}
-use Rattle.avro_schema_names.specs.declared.error.SchemaError.{SchemaError}
-use Rattle.avro_schema_names.specs.declared.error.SchemaError.TheVariants.{BadNumber, TooLarge}
-use Rattle.avro_schema.specs.Declaring.{Declares}
-use Rattle.avro_schema.specs.DefaultData.{AreFieldsOf, AreNodesOf, IsFieldOf, IsNodeOf, a_record_of, a_whole, no_more_fields, no_more_nodes, one_more_field, one_more_node, with_default, without_default}
-use Rattle.avro_schema.specs.Defaults.{all_defaults, default_of, field_default, field_defaults, fields_with, finished, node_defaults, node_with, nodes_with}
-use Rattle.avro_schema_names.specs.Draft.{Draft, DraftField, RecordDraft, Whole}
-use Rattle.avro_schema_names.specs.Fault.{◌>>=◌}
-use Rattle.avro_schema_names.specs.Head.{Head, heads_of}
-use Rattle.avro_schema_names.specs.Names.{null_namespace}
-use Rattle.avro_schema.specs.Schema.{TextGives, declared, nodes_in_read, schema_of}
-use Rattle.avro_schema.specs.SchemaLaw.{DeclaresSchema, FaultsWhereNoneIsDeclared, IsSchema, NodesAreThoseDeclared, ReadsAsSchema}
-use Rattle.avro_schema.specs.Walk.{walk}
+use Rattle.spec_schema.specs.declared.schema_error.SchemaError.{SchemaError}
+use Rattle.spec_schema.specs.declared.schema_error.SchemaError.TheVariants.{BadNumber, TooLarge}
+use Rattle.spec_schema.specs.Declaring.{Declares}
+use Rattle.spec_schema.specs.DefaultData.{AreFieldsOf, AreNodesOf, IsFieldOf, IsNodeOf, a_record_of, a_whole, no_more_fields, no_more_nodes, one_more_field, one_more_node, with_default, without_default}
+use Rattle.spec_schema.specs.Defaults.{all_defaults, default_of, field_default, field_defaults, fields_with, finished, node_defaults, node_with, nodes_with}
+use Rattle.spec_schema.specs.Draft.{Draft, DraftField, RecordDraft, Whole}
+use Rattle.spec_schema.specs.Steps.{◌>>=◌}
+use Rattle.spec_schema.specs.Head.{Head, heads_of}
+use Rattle.spec_schema.specs.Names.{null_namespace}
+use Rattle.avro_schema.specs.Schema.{TextGives}
+use Rattle.spec_schema.specs.Schema.{declared, nodes_in_read, schema_of}
+use Rattle.spec_schema.specs.SchemaLaw.{DeclaresSchema, FaultsWhereNoneIsDeclared, IsSchema, NodesAreThoseDeclared, ReadsAsSchema}
+use Rattle.spec_schema.specs.Walk.{walk}
 use Rattle.avro_schema.proofs.DeclaredFits.{fits_alone}
 use Rattle.avro_schema.proofs.DeclaringBothWays.{declares, gives, root_is}
 use Rattle.avro_schema.proofs.DefaultsGiven.{HasDistinctSymbols, default-given}

@@ -7,8 +7,8 @@ use Rattle.std.specs.declared.cmp.Ordering.{Ordering}
 use Rattle.std.specs.declared.cmp.Ordering.TheVariants.{Less, Equal, Greater}
 use Rattle.serde_json.specs.Data.{Data, array, Items, Members, no_members, member}
 use Rattle.serde_json.specs.Find.{get_member}
-use Rattle.avro_schema.specs.Declaring.{DeclareFields, DeclareMembers, Declares, a_field, a_fixed, a_map, a_member, a_primitive, a_record, a_reference, a_union, an_array, an_enum, another, no_more_fields, no_more_members}
-use Rattle.avro_schema_names.specs.Draft.{Draft, Whole, RecordDraft, DraftField}
+use Rattle.spec_schema.specs.Declaring.{DeclareFields, DeclareMembers, Declares, a_field, a_fixed, a_map, a_member, a_primitive, a_record, a_reference, a_union, an_array, an_enum, another, no_more_fields, no_more_members}
+use Rattle.spec_schema.specs.Draft.{Draft, Whole, RecordDraft, DraftField}
 use Rattle.avro_schema.proofs.ReadSizes.{HasDataWithin, HaveItemsWithin, HaveMembersWithin}
 
 module _ (most : ℕ) where

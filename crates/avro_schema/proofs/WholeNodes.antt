@@ -6,23 +6,24 @@ use Rattle.std.specs.Str.{bytes_eq}
 use Rattle.serde_json.specs.Data.{Data}
 use Rattle.serde_json.specs.Read.{read}
 use Rattle.serde_json.specs.Written.{has_float}
-use Rattle.avro_schema_names.specs.declared.error.SchemaError.{SchemaError}
-use Rattle.avro_schema_names.specs.declared.error.SchemaError.TheVariants.{BadNumber, BadDefault}
+use Rattle.spec_schema.specs.declared.schema_error.SchemaError.{SchemaError}
+use Rattle.spec_schema.specs.declared.schema_error.SchemaError.TheVariants.{BadNumber, BadDefault}
 use Rattle.avro_schema.specs.Contract.{run}
 use Rattle.spec_avro.specs.Datum.{Datum}
-use Rattle.avro_schema.specs.Defaults.{all_defaults, field_defaults, fields_with, finished, node_defaults, node_with, nodes_with, field_default}
-use Rattle.avro_schema_names.specs.Draft.{Draft, Whole, RecordDraft, DraftField, HasFewSymbols, HaveFewSymbols}
-use Rattle.avro_schema_names.specs.Fault.{◌>>=◌}
-use Rattle.avro_schema_names.specs.Head.{Head, Named, head_at, head_of, head_of_node, heads_of, is_same_type}
+use Rattle.spec_schema.specs.Defaults.{all_defaults, field_defaults, fields_with, finished, node_defaults, node_with, nodes_with, field_default}
+use Rattle.spec_schema.specs.Draft.{Draft, Whole, RecordDraft, DraftField}
+use Rattle.avro_schema_names.specs.Draft.{HasFewSymbols, HaveFewSymbols}
+use Rattle.spec_schema.specs.Steps.{◌>>=◌}
+use Rattle.spec_schema.specs.Head.{Head, Named, head_at, head_of, head_of_node, heads_of, is_same_type}
 use Rattle.spec_avro.specs.Node.{Node, NullNode, BooleanNode, IntNode, LongNode, BytesNode, TextNode, FixedNode, EnumNode, ArrayNode, MapNode, UnionNode, RecordNode}
 use Rattle.spec_avro.specs.WellFormed.{AreApart, FieldsBelow, HoldsItem, IsMember, IsPartOf, IsWellFormed, NodeIsWellFormed, are_of_one_type, full_name_of, is_named, is_union}
 use Rattle.avro_types.specs.Laws.Booleans.{false_by, no_true, none_some, some_inside}
 use Rattle.spec_avro.specs.declared.limits.TheConstants.{MOST_NODES}
 use Rattle.std.proofs.lemmas.Slice.Eq.{bytes_eq-Decides}
-use Rattle.avro_schema.specs.Definitions.{AreDefinedOnce, IsDefinedAt}
-use Rattle.avro_schema.specs.Schema.{declared, nodes_in_read}
-use Rattle.avro_schema_names.specs.Names.{null_namespace}
-use Rattle.avro_schema.specs.Walk.{added, walk}
+use Rattle.spec_schema.specs.Definitions.{AreDefinedOnce, IsDefinedAt}
+use Rattle.spec_schema.specs.Schema.{declared, nodes_in_read}
+use Rattle.spec_schema.specs.Names.{null_namespace}
+use Rattle.spec_schema.specs.Walk.{added, walk}
 use Rattle.avro_schema.proofs.FinishedNodes.{in-row, node-finished, length-finished, head-finished}
 use Rattle.avro_schema.proofs.Fits.{AllFrom, DraftFits, Gives, ItemFits, MemberFits, PartFits, is_named_there, is_union_there}
 use Rattle.avro_schema_names.proofs.DraftLists.{length-heads_of}

@@ -3,11 +3,11 @@ use Rattle.std.proofs.Common.{◌≡◌, ◌≢◌, ◌⊎◌, inl, inr, ℕ, Li
 use Rattle.std.specs.Str.{bytes_eq}
 use Rattle.std.proofs.lemmas.Slice.Eq.{bytes_eq-Decides}
 use Rattle.serde_json.specs.Data.{Data, null, boolean, number, string, array, object}
-use Rattle.avro_schema_names.specs.declared.error.SchemaError.TheVariants.{OutOfProfile}
+use Rattle.spec_schema.specs.declared.schema_error.SchemaError.TheVariants.{OutOfProfile}
 use Rattle.spec_avro.specs.Node.{Node, NullNode, BooleanNode, IntNode, LongNode, BytesNode, TextNode}
-use Rattle.avro_schema.specs.Walk.{fault, leaf, named, reference}
-use Rattle.avro_schema_names.specs.Word.{word_of, is_primitive, form_of}
-use Rattle.avro_schema.specs.Declaring.{IsNoWord, IsNoPrimitive, IsPrimitive, null_type, boolean_type, int_type, long_type, bytes_type, text_type}
+use Rattle.spec_schema.specs.Walk.{fault, leaf, named, reference}
+use Rattle.spec_schema.specs.Word.{word_of, is_primitive, form_of}
+use Rattle.spec_schema.specs.Declaring.{IsNoWord, IsNoPrimitive, IsPrimitive, null_type, boolean_type, int_type, long_type, bytes_type, text_type}
 
 decided : (s w : List ℕ) (b : Bool) → bytes_eq s w ≡ b → (s ≡ w) ⊎ (bytes_eq s w ≡ false)
 decided s w true e = inl ((bytes_eq-Decides s w).0 e)

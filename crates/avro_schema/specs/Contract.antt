@@ -2,15 +2,15 @@
 use Rattle.std.specs.Prelude.{◌≡◌, ◌≢◌, ℕ, List, Option, option_map, codes, Result, Ok, Err}
 use Rattle.serde_json.specs.Data.{Data}
 use Rattle.serde_json.specs.Find.{get}
-use Rattle.avro_schema_names.specs.declared.error.SchemaError.{SchemaError}
-use Rattle.avro_schema_names.specs.declared.error.SchemaError.TheVariants.{NoMemory}
-use Rattle.avro_schema_names.specs.declared.word.Form.{Form}
-use Rattle.avro_schema_names.specs.Draft.{Draft, DraftField, Whole}
-use Rattle.avro_schema_names.specs.Head.{head_of_node, heads_of}
-use Rattle.avro_schema.specs.Walk.{Walk, added, around, declared_by, field_of, fields, if_few, if_room, or_unknown, walk}
+use Rattle.spec_schema.specs.declared.schema_error.SchemaError.{SchemaError}
+use Rattle.spec_schema.specs.declared.schema_error.SchemaError.TheVariants.{NoMemory}
+use Rattle.spec_schema.specs.declared.word.Form.{Form}
+use Rattle.spec_schema.specs.Draft.{Draft, DraftField, Whole}
+use Rattle.spec_schema.specs.Head.{head_of_node, heads_of}
+use Rattle.spec_schema.specs.Walk.{Walk, added, around, declared_by, field_of, fields, if_few, if_room, or_unknown, walk}
 use Rattle.avro_schema.specs.Holder.{holder_node}
 use Rattle.avro_schema.specs.declared.holder.Holder.{Holder}
-use Rattle.avro_schema_names.specs.Word.{form_of}
+use Rattle.spec_schema.specs.Word.{form_of}
 
 -- a walk after nodes that are already there: the value, and all nodes
 unfoldable pub run : {A : Type 0} → Walk A → List ℕ → List Draft → Result (A × List Draft) SchemaError

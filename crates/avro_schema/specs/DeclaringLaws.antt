@@ -1,11 +1,11 @@
 -- The laws that tie the walk to what is declared.
 use Rattle.std.specs.Prelude.{◌≡◌, ℕ, List, Ok}
 use Rattle.serde_json.specs.Data.{Data}
-use Rattle.avro_schema.specs.Declaring.{Declares}
-use Rattle.avro_schema.specs.Definitions.{AreDefinedOnce}
-use Rattle.avro_schema_names.specs.Draft.{Draft}
-use Rattle.avro_schema_names.specs.Head.{heads_of}
-use Rattle.avro_schema.specs.Walk.{walk}
+use Rattle.spec_schema.specs.Declaring.{Declares}
+use Rattle.spec_schema.specs.Definitions.{AreDefinedOnce}
+use Rattle.spec_schema.specs.Draft.{Draft}
+use Rattle.spec_schema.specs.Head.{heads_of}
+use Rattle.spec_schema.specs.Walk.{walk}
 
 -- what the walk gives is declared
 abbrev pub DeclaresWhatIsGiven : Type 0

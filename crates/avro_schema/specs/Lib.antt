@@ -1,11 +1,4 @@
 pub mod Schema
-pub mod SchemaLaw
 pub mod Contract
-pub mod Declaring
 pub mod DeclaringLaws
-pub mod Definitions
-pub mod Given
 pub mod Holder
-pub mod Walk
-pub mod DefaultData
-pub mod Defaults

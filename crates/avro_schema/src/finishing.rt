@@ -3,7 +3,7 @@
 ghost use Rattle.std.specs.Prelude.{◌≡◌, IfOk, map, option_map};
 ghost use Rattle.std.specs.Option.{ok_or};
 ghost use Rattle.avro_types.specs.Datum.{datum_of};
-ghost use Rattle.avro_schema.specs.Defaults.{all_defaults, field_default, field_defaults, fields_with, node_defaults, node_with, nodes_with};
+ghost use Rattle.spec_schema.specs.Defaults.{all_defaults, field_default, field_defaults, fields_with, node_defaults, node_with, nodes_with};
 ghost use Rattle.avro_schema_names.specs.Draft.{HaveFewSymbols, data_at, draft_field_of, draft_of, drafts_of};
 ghost use Rattle.avro_schema_names.specs.Fault.{Tells};
 ghost use Rattle.avro_types.specs.Node.{fields_of, node_of, nodes_of};

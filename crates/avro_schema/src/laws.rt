@@ -1,6 +1,6 @@
 //! The law of what a text declares. It does nothing when it runs.
 
-ghost use Rattle.avro_schema.specs.SchemaLaw.{FaultsWhereNoneIsDeclared, NodesAreThoseDeclared};
+ghost use Rattle.spec_schema.specs.SchemaLaw.{FaultsWhereNoneIsDeclared, NodesAreThoseDeclared};
 
 /// The law that the nodes of a text are those that it declares, and so that a fault is reported exactly where it
 /// declares none.

@@ -10,8 +10,9 @@ ghost use Rattle.avro_types.specs.Node.{node_of, nodes_of};
 ghost use Rattle.spec_avro.specs.WellFormed.{NodeIsWellFormed};
 ghost use Rattle.spec_avro.specs.declared.limits.TheConstants.{MOST_TEXT};
 ghost use Rattle.avro_schema_names.specs.Fault.{Tells};
-ghost use Rattle.avro_schema.specs.Schema.{IsCompact, Parses, TextGives, declared};
-ghost use Rattle.avro_schema.specs.SchemaLaw.{ReadsAsSchema};
+ghost use Rattle.avro_schema.specs.Schema.{IsCompact, Parses, TextGives};
+ghost use Rattle.spec_schema.specs.Schema.{declared};
+ghost use Rattle.spec_schema.specs.SchemaLaw.{ReadsAsSchema};
 
 use crate::numbers::has_float;
 use crate::{all_defaults, nodes_with, walk};
@@ -42,7 +43,8 @@ impl Model for Schema {
     ghost use Rattle.std.specs.Prelude.{string_bytes};
     ghost use Rattle.std.specs.Arc.{arc_value};
     ghost use Rattle.avro_types.specs.DatumCode.{datum_coded};
-    ghost use Rattle.avro_schema.specs.Schema.{Declaration, TextGives};
+    ghost use Rattle.spec_schema.specs.Schema.{Declaration};
+    ghost use Rattle.avro_schema.specs.Schema.{TextGives};
     ghost use Rattle.std.specs.Coded.{codes};
 
     ghost Value = { Declaration };

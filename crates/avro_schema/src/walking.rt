@@ -4,16 +4,19 @@ ghost use Rattle.std.specs.Prelude.{◌≡◌, ◌<◌, ◌≤◌, ℕ, List, []
 ghost use Rattle.serde_json.specs.Find.{get};
 ghost use Rattle.serde_json.specs.View.{view, items_view};
 ghost use Rattle.avro_schema.specs.Contract.{Walks, holder_walk, object_as, object_walk};
-ghost use Rattle.avro_schema_names.specs.Draft.{Whole, data_at, draft_field_of, field_names};
-ghost use Rattle.avro_schema_names.specs.Head.{IsUnnamed, head_of_node};
+ghost use Rattle.spec_schema.specs.Draft.{Whole};
+ghost use Rattle.avro_schema_names.specs.Draft.{data_at, draft_field_of, field_names};
+ghost use Rattle.avro_schema_names.specs.Head.{IsUnnamed};
+ghost use Rattle.spec_schema.specs.Head.{head_of_node};
 ghost use Rattle.avro_schema_names.specs.Index.{IsNamespaceOf, text_of_namespace};
 ghost use Rattle.avro_types.specs.Node.{node_of};
-ghost use Rattle.avro_schema.specs.Walk.{leaf, reference, named, walk, members, if_room, union_of, or_unknown, fields, fields_after, field};
+ghost use Rattle.spec_schema.specs.Walk.{leaf, reference, named, walk, members, if_room, union_of, or_unknown, fields, fields_after, field};
 
 use crate::holder::Holder;
 use avro_schema_names::{
     Draft, DraftField, Drafts, FieldList, Form, Namespace, SchemaError, Word, are_apart,
-    default_symbol, defined_node, field_aliases, field_name, new_names, size_of, symbols_of,
+    default_symbol, defined_node, field_aliases, field_name, form_of_type, leaf_of, new_names,
+    size_of, symbols_of,
 };
 use avro_types::{Aliases, Kind, MOST_FIELDS, MOST_NODES};
 use serde_json::Value;
@@ -67,7 +70,7 @@ fn walk_text(text: &str, enclosing: &Namespace, drafts: &mut Drafts) -> Result<u
     if word.is_left_out() {
         return Err(SchemaError::OutOfProfile);
     }
-    match word.leaf() {
+    match leaf_of(word) {
         Some(kind) => walk_leaf(kind, drafts),
         None => walk_reference(text, enclosing, drafts),
     }
@@ -215,7 +218,7 @@ fn walk_object<'v>(
     ensures { Walks (λ n. n) result (object_walk (view value.now)) (text_of_namespace enclosing.now) drafts.old
         drafts.new }
 {
-    match Form::of_type(value.get("type")) {
+    match form_of_type(value.get("type")) {
         Form::Record => walk_record(alloc, value, enclosing, drafts),
         Form::Enum => walk_enum(alloc, value, enclosing, drafts),
         Form::Fixed => walk_fixed(alloc, value, enclosing, drafts),

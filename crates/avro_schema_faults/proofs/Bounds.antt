@@ -1,12 +1,12 @@
 -- What walks after heads give, from what they give after nodes; and walks one after another.
 use Rattle.std.proofs.Common.{◌≡◌, ℕ, List, ◌++◌, Result, Ok, Err, refl, ap, ◌∙◌}
-use Rattle.avro_schema_names.specs.declared.error.SchemaError.{SchemaError}
-use Rattle.avro_schema_names.specs.Fault.{◌>>=◌}
-use Rattle.avro_schema_names.specs.Draft.{Draft}
-use Rattle.avro_schema_names.specs.Head.{Head, heads_of}
+use Rattle.spec_schema.specs.declared.schema_error.SchemaError.{SchemaError}
+use Rattle.spec_schema.specs.Steps.{◌>>=◌}
+use Rattle.spec_schema.specs.Draft.{Draft}
+use Rattle.spec_schema.specs.Head.{Head, heads_of}
 use Rattle.avro_schema_names.proofs.DraftLists.{heads_of-append}
 use Rattle.avro_schema.specs.Contract.{run}
-use Rattle.avro_schema.specs.Walk.{Walk, added, followed_by}
+use Rattle.spec_schema.specs.Walk.{Walk, added, followed_by}
 
 -- it fails after nodes, and so after their heads
 pub fails-after : {A : Type 0} (w : Walk A) (enclosing : List ℕ) (ns : List Draft) (e : SchemaError) → run w enclosing ns ≡ Err e → w enclosing (heads_of ns) ≡ Err e

@@ -6,16 +6,16 @@ use Rattle.serde_json.specs.Find.{as_object, get}
 use Rattle.spec_avro.specs.FullNames.{namespace_of}
 use Rattle.spec_avro.specs.Node.{ArrayNode, MapNode, Names}
 use Rattle.spec_avro.specs.declared.limits.TheConstants.{MOST_FIELDS, MOST_NODES}
-use Rattle.avro_schema_names.specs.Draft.{Draft, DraftField, Whole}
-use Rattle.avro_schema_names.specs.Head.{ArrayHead, Head, MapHead, Named, UnionHead, heads_of}
-use Rattle.avro_schema_names.specs.Aliases.{field_aliases, new_names}
-use Rattle.avro_schema_names.specs.Names.{field_name}
-use Rattle.avro_schema_names.specs.declared.error.SchemaError.{SchemaError}
-use Rattle.avro_schema_names.specs.declared.word.Form.TheVariants as forms
+use Rattle.spec_schema.specs.Draft.{Draft, DraftField, Whole}
+use Rattle.spec_schema.specs.Head.{ArrayHead, Head, MapHead, Named, UnionHead, heads_of}
+use Rattle.spec_schema.specs.Aliases.{field_aliases, new_names}
+use Rattle.spec_schema.specs.Names.{field_name}
+use Rattle.spec_schema.specs.declared.schema_error.SchemaError.{SchemaError}
+use Rattle.spec_schema.specs.declared.word.Form.TheVariants as forms
 use Rattle.avro_schema_paths.specs.Places.{Path}
 use Rattle.avro_schema_paths.specs.declared.step.Step.{Step}
 use Rattle.avro_schema.specs.Contract.{field_walk}
-use Rattle.avro_schema.specs.Walk.{Walk, around, field, field_of, fields, fields_after, followed_by, if_few, if_room, members, or_unknown, record_of, union_of, walk}
+use Rattle.spec_schema.specs.Walk.{Walk, around, field, field_of, fields, fields_after, followed_by, if_few, if_room, members, or_unknown, record_of, union_of, walk}
 use Rattle.avro_schema.proofs.Members.{field-object}
 use Rattle.avro_schema_faults.specs.Faults.{ComesTo, Fails, FieldAt, IsFault, MemberAt, Visit, first_field, first_member, here, next_field, next_member, to_field, to_fields, to_items, to_member, to_type, to_values, to_wrapped, within}
 use Rattle.avro_schema_faults.proofs.Sound.{walk-of_form}

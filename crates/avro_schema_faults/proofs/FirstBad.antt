@@ -3,8 +3,8 @@ use Rattle.std.proofs.Common.{◌≡◌, ◌<◌, ◌≤◌, ◌+◌, ◌⊎◌,
 use Rattle.std.specs.List.{position_from}
 use Rattle.spec_avro.specs.Datum.{Datum}
 use Rattle.spec_avro.specs.Node.{Names}
-use Rattle.avro_schema.specs.Defaults.{all_defaults, field_default, field_defaults, node_defaults}
-use Rattle.avro_schema_names.specs.Draft.{Draft, DraftField, RecordDraft, Whole}
+use Rattle.spec_schema.specs.Defaults.{all_defaults, field_default, field_defaults, node_defaults}
+use Rattle.spec_schema.specs.Draft.{Draft, DraftField, RecordDraft, Whole}
 use Rattle.avro_schema_faults.specs.declared.bad_defaults.FieldPlace.{FieldPlace}
 use Rattle.avro_schema_faults.specs.DefaultPlaces.{HasBadDefault, IsFirstBadDefault, bad_field, first_bad, is_bad, or_later}
 use Rattle.avro_schema_faults.specs.Searching.{is_record}

@@ -4,7 +4,8 @@ use Rattle.std.specs.List.{position_from}
 use Rattle.std.proofs.Math.Seq.{drop-cons}
 use Rattle.std.proofs.Math.ListN.{drop_of_length-le}
 use Rattle.avro_schema_names.specs.declared.draft.Draft as rust
-use Rattle.avro_schema_names.specs.Draft.{Draft, draft_of, drafts_of}
+use Rattle.spec_schema.specs.Draft.{Draft}
+use Rattle.avro_schema_names.specs.Draft.{draft_of, drafts_of}
 use Rattle.avro_schema_faults.specs.DefaultPlaces.{bad_field, first_bad}
 
 rest-is : {A : Type 0} (xs : List A) (i : ℕ) (x : A) → i < length xs → x ≡ get_or xs i x → drop i xs ≡ x ∷ drop (i + 1) xs

@@ -2,9 +2,9 @@
 use Rattle.std.proofs.Common.{◌≡◌, ℕ, List, [], Some, option_and_then, refl, ap, ◌∙◌}
 use Rattle.serde_json.specs.Data.{Data, Items}
 use Rattle.serde_json.specs.Find.{get_item}
-use Rattle.avro_schema_names.specs.Head.{Head}
-use Rattle.avro_schema_names.specs.Names.{null_namespace}
-use Rattle.avro_schema_names.specs.declared.error.SchemaError.{SchemaError}
+use Rattle.spec_schema.specs.Head.{Head}
+use Rattle.spec_schema.specs.Names.{null_namespace}
+use Rattle.spec_schema.specs.declared.schema_error.SchemaError.{SchemaError}
 use Rattle.avro_schema_paths.specs.Following.{follow, step_in}
 use Rattle.avro_schema_paths.specs.Places.{Path}
 use Rattle.avro_schema_paths.specs.declared.step.Step.{Step}

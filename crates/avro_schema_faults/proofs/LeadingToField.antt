@@ -1,8 +1,8 @@
 -- The steps to a field of a record that a search has found.
 use Rattle.std.proofs.Common.{◌≡◌, ◌<◌, ◌+◌, ℕ, zero, suc, List, [], ◌∷◌, ◌++◌, length, true, Option, Some, None, Ok, arith, ap, ◌∙◌, slice_get, append_assoc}
 use Rattle.serde_json.specs.Data.{Data}
-use Rattle.avro_schema_names.specs.Draft.{Draft}
-use Rattle.avro_schema_names.specs.Names.{null_namespace}
+use Rattle.spec_schema.specs.Draft.{Draft}
+use Rattle.spec_schema.specs.Names.{null_namespace}
 use Rattle.avro_schema_paths.specs.Places.{Path}
 use Rattle.avro_schema_paths.specs.declared.step.Step.TheVariants as steps
 use Rattle.avro_schema_faults.specs.Searching.{LeadsToField, Searches, SoughtIn, is_record}

@@ -7,23 +7,23 @@ use Rattle.serde_json.specs.declared.number.Number.{Number}
 use Rattle.serde_json.specs.declared.value.Value as json
 use Rattle.serde_json.specs.declared.value.Value.{the_lemmas}
 use Rattle.spec_avro.specs.FullNames.{namespace_of}
-use Rattle.spec_avro.specs.Node.{ArrayNode, MapNode, Names, UnionNode}
-use Rattle.avro_types.specs.Node.{names_of}
+use Rattle.spec_avro.specs.Node.{ArrayNode, MapNode, Names, UnionNode, names_of}
 use Rattle.spec_avro.specs.declared.limits.TheConstants.{MOST_NODES}
-use Rattle.avro_schema_names.specs.Draft.{Draft, DraftField, RecordDraft, Whole, field_names}
-use Rattle.avro_schema_names.specs.Head.{ArrayHead, Head, MapHead, Named, UnionHead, heads_of}
+use Rattle.spec_schema.specs.Draft.{Draft, DraftField, RecordDraft, Whole}
+use Rattle.avro_schema_names.specs.Draft.{field_names}
+use Rattle.spec_schema.specs.Head.{ArrayHead, Head, MapHead, Named, UnionHead, heads_of}
 use Rattle.avro_schema_names.proofs.Depths.{found-depth}
 use Rattle.avro_schema_names.proofs.DraftLists.{heads_of-append, length-heads_of}
-use Rattle.avro_schema_names.specs.Aliases.{new_names}
-use Rattle.avro_schema_names.specs.declared.error.SchemaError.{SchemaError}
-use Rattle.avro_schema_names.specs.declared.error.SchemaError.TheVariants.{Unknown}
-use Rattle.avro_schema_names.specs.declared.word.Form.{Form}
-use Rattle.avro_schema_names.specs.declared.word.Form.TheVariants as forms
+use Rattle.spec_schema.specs.Aliases.{new_names}
+use Rattle.spec_schema.specs.declared.schema_error.SchemaError.{SchemaError}
+use Rattle.spec_schema.specs.declared.schema_error.SchemaError.TheVariants.{Unknown}
+use Rattle.spec_schema.specs.declared.word.Form.{Form}
+use Rattle.spec_schema.specs.declared.word.Form.TheVariants as forms
 use Rattle.avro_schema_paths.specs.Places.{Path}
 use Rattle.avro_schema_paths.specs.declared.step.Step.{Step}
 use Rattle.avro_schema_paths.specs.declared.step.Step.TheVariants as steps
 use Rattle.avro_schema.specs.Contract.{Walks, object_as, run}
-use Rattle.avro_schema.specs.Walk.{around, fault, fields, if_room, members, or_unknown, record_of, union_of, walk}
+use Rattle.spec_schema.specs.Walk.{around, fault, fields, if_room, members, or_unknown, record_of, union_of, walk}
 use Rattle.avro_schema.proofs.Records.{record-done, record-failed}
 use Rattle.avro_schema.proofs.Runs.{closed, run-fault, run-if_room, unclosed}
 use Rattle.avro_schema_faults.specs.Faults.{ComesTo, HasSoundParts, IsOfForm, Visit, listing, schema, to_field, to_fields, to_items, to_member, to_values}

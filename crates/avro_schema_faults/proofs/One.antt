@@ -4,14 +4,14 @@ use Rattle.serde_json.specs.Data.{Data, Items}
 use Rattle.serde_json.specs.Find.{get}
 use Rattle.spec_avro.specs.FullNames.{namespace_of}
 use Rattle.spec_avro.specs.Node.{Names}
-use Rattle.avro_schema_names.specs.Draft.{Draft, DraftField}
-use Rattle.avro_schema_names.specs.Head.{ArrayHead, Head, MapHead, Named, UnionHead, heads_of}
-use Rattle.avro_schema_names.specs.declared.error.SchemaError.{SchemaError}
-use Rattle.avro_schema_names.specs.declared.word.Form.TheVariants as forms
+use Rattle.spec_schema.specs.Draft.{Draft, DraftField}
+use Rattle.spec_schema.specs.Head.{ArrayHead, Head, MapHead, Named, UnionHead, heads_of}
+use Rattle.spec_schema.specs.declared.schema_error.SchemaError.{SchemaError}
+use Rattle.spec_schema.specs.declared.word.Form.TheVariants as forms
 use Rattle.avro_schema_paths.specs.Places.{Path}
 use Rattle.avro_schema_paths.specs.declared.step.Step.{Step}
 use Rattle.avro_schema_paths.specs.declared.step.Step.TheVariants as steps
-use Rattle.avro_schema.specs.Walk.{field, walk}
+use Rattle.spec_schema.specs.Walk.{field, walk}
 use Rattle.avro_schema_faults.specs.Faults.{ComesTo, Fails, FieldAt, IsFault, MemberAt, Visit, first_field, first_member, here, listing, next_field, next_member, schema, to_field, to_fields, to_items, to_member, to_type, to_values, to_wrapped, within}
 use Rattle.avro_schema_faults.proofs.Failing.{place-fails}
 use Rattle.avro_schema_faults.proofs.Sound.{no_array, two_forms}

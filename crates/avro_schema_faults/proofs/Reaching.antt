@@ -4,10 +4,10 @@ use Rattle.std.proofs.Math.Seq.{drop-cons}
 use Rattle.serde_json.specs.Data.{Data, Items, item}
 use Rattle.serde_json.specs.View.{view, items_view}
 use Rattle.serde_json.specs.declared.value.Value.{Value}
-use Rattle.avro_schema_names.specs.Draft.{Draft, DraftField}
-use Rattle.avro_schema_names.specs.Head.{Head, heads_of}
+use Rattle.spec_schema.specs.Draft.{Draft, DraftField}
+use Rattle.spec_schema.specs.Head.{Head, heads_of}
 use Rattle.avro_schema.specs.Contract.{run}
-use Rattle.avro_schema.specs.Walk.{field, walk}
+use Rattle.spec_schema.specs.Walk.{field, walk}
 use Rattle.avro_schema_faults.specs.Faults.{FieldAt, MemberAt, Visit, field_after, first_field, first_member, next_field, next_member}
 use Rattle.avro_schema_faults.proofs.Bounds.{gives-after}
 

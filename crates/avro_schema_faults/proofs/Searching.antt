@@ -6,17 +6,17 @@ use Rattle.serde_json.specs.Data.{Data, array, string, Items}
 use Rattle.spec_avro.specs.FullNames.{full_name}
 use Rattle.spec_avro.specs.Node.{Node, UnionNode}
 use Rattle.spec_avro.specs.declared.limits.TheConstants.{MOST_NODES}
-use Rattle.avro_schema_names.specs.Draft.{Draft, Whole}
-use Rattle.avro_schema_names.specs.Head.{Head, UnionHead, are_apart, defined_at, head_at, heads_of}
-use Rattle.avro_schema_names.specs.Fault.{◌>>=◌}
-use Rattle.avro_schema_names.specs.Word.{is_left_out, leaf_of, word_of}
-use Rattle.avro_schema_names.specs.declared.error.SchemaError.{SchemaError}
-use Rattle.avro_schema_names.specs.declared.error.SchemaError.TheVariants.{BadUnion, OutOfProfile, TooLarge, Unknown}
-use Rattle.avro_schema_names.specs.declared.word.Form.TheVariants as forms
+use Rattle.spec_schema.specs.Draft.{Draft, Whole}
+use Rattle.spec_schema.specs.Head.{Head, UnionHead, are_apart, defined_at, head_at, heads_of}
+use Rattle.spec_schema.specs.Steps.{◌>>=◌}
+use Rattle.spec_schema.specs.Word.{is_left_out, leaf_of, word_of}
+use Rattle.spec_schema.specs.declared.schema_error.SchemaError.{SchemaError}
+use Rattle.spec_schema.specs.declared.schema_error.SchemaError.TheVariants.{BadUnion, OutOfProfile, TooLarge, Unknown}
+use Rattle.spec_schema.specs.declared.word.Form.TheVariants as forms
 use Rattle.avro_schema_paths.specs.Places.{Path}
 use Rattle.avro_schema_paths.specs.declared.step.Step.{Step}
 use Rattle.avro_schema_paths.specs.declared.step.Step.TheVariants as steps
-use Rattle.avro_schema.specs.Walk.{Walk, added as added_to, around, done, fault, followed_by, found, if_room, leaf_or_reference, members, named, one_node, reference, union_of, walk}
+use Rattle.spec_schema.specs.Walk.{Walk, added as added_to, around, done, fault, followed_by, found, if_room, leaf_or_reference, members, named, one_node, reference, union_of, walk}
 use Rattle.avro_schema_faults.specs.Faults.{ComesTo, IsOfForm, Visit, further, itself, schema, to_member}
 use Rattle.avro_schema_faults.specs.Searching.{Adds, IsDeclaredAt, SoughtIn, SoughtInMembers, is_record}
 

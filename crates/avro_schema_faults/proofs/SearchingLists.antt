@@ -5,12 +5,12 @@ use Rattle.std.proofs.Math.ListN.{drop_of_length-le}
 use Rattle.serde_json.specs.Data.{Data, Items, item, no_items}
 use Rattle.serde_json.specs.View.{view, items_view}
 use Rattle.serde_json.specs.declared.value.Value.{Value}
-use Rattle.avro_schema_names.specs.Draft.{Draft, DraftField}
-use Rattle.avro_schema_names.specs.Head.{Head, heads_of}
+use Rattle.spec_schema.specs.Draft.{Draft, DraftField}
+use Rattle.spec_schema.specs.Head.{Head, heads_of}
 use Rattle.avro_schema_names.proofs.DraftLists.{get-front, length-heads_of}
 use Rattle.avro_schema_paths.specs.Places.{Path}
 use Rattle.avro_schema_paths.specs.declared.step.Step.TheVariants as steps
-use Rattle.avro_schema.specs.Walk.{field, fields_after, members, walk}
+use Rattle.spec_schema.specs.Walk.{field, fields_after, members, walk}
 use Rattle.avro_schema_faults.specs.Faults.{field_after, first_field, first_member, next_field, next_member, schema}
 use Rattle.avro_schema_faults.specs.Searching.{Behind, SoughtIn, SoughtInField, SoughtInFields, SoughtInMembers}
 use Rattle.avro_schema_faults.proofs.Searching.{InTwo, get-behind, in-two, moved, new_of}

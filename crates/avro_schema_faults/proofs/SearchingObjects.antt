@@ -6,19 +6,19 @@ use Rattle.serde_json.specs.Find.{as_array, as_object, get}
 use Rattle.spec_avro.specs.FullNames.{namespace_of}
 use Rattle.spec_avro.specs.Node.{ArrayNode, EnumNode, FixedNode, MapNode, Names, Node}
 use Rattle.spec_avro.specs.declared.limits.TheConstants.{MOST_FIELDS, MOST_NODES}
-use Rattle.avro_schema_names.specs.Draft.{Draft, DraftField, RecordDraft, Whole}
-use Rattle.avro_schema_names.specs.Head.{ArrayHead, Head, MapHead, Named}
-use Rattle.avro_schema_names.specs.Aliases.{field_aliases, new_names}
-use Rattle.avro_schema_names.specs.Attributes.{default_symbol, size_of, symbols_of}
-use Rattle.avro_schema_names.specs.Names.{field_name}
-use Rattle.avro_schema_names.specs.declared.error.SchemaError.TheVariants.{TooLarge}
-use Rattle.avro_schema_names.specs.declared.word.Form.{Form}
-use Rattle.avro_schema_names.specs.declared.word.Form.TheVariants as forms
+use Rattle.spec_schema.specs.Draft.{Draft, DraftField, RecordDraft, Whole}
+use Rattle.spec_schema.specs.Head.{ArrayHead, Head, MapHead, Named}
+use Rattle.spec_schema.specs.Aliases.{field_aliases, new_names}
+use Rattle.spec_schema.specs.Attributes.{default_symbol, size_of, symbols_of}
+use Rattle.spec_schema.specs.Names.{field_name}
+use Rattle.spec_schema.specs.declared.schema_error.SchemaError.TheVariants.{TooLarge}
+use Rattle.spec_schema.specs.declared.word.Form.{Form}
+use Rattle.spec_schema.specs.declared.word.Form.TheVariants as forms
 use Rattle.avro_schema_paths.specs.Places.{Path}
 use Rattle.avro_schema_paths.specs.declared.step.Step.{Step}
 use Rattle.avro_schema_paths.specs.declared.step.Step.TheVariants as steps
 use Rattle.avro_schema.specs.Contract.{field_walk, object_as}
-use Rattle.avro_schema.specs.Walk.{Walk, around, enum_of, field_of, fields, fixed_of, if_few, if_room, or_unknown, record_of, walk}
+use Rattle.spec_schema.specs.Walk.{Walk, around, enum_of, field_of, fields, fixed_of, if_few, if_room, or_unknown, record_of, walk}
 use Rattle.avro_schema.proofs.Members.{field-object, field-other, fields-none}
 use Rattle.avro_schema_faults.specs.Faults.{ComesTo, IsOfForm, field_after, listing, schema, to_field, to_fields, to_items, to_type, to_values, to_wrapped}
 use Rattle.avro_schema_faults.specs.Searching.{Adds, Behind, IsDeclaredAt, IsInField, SoughtIn, SoughtInField, SoughtInFields, SoughtInList}

@@ -4,16 +4,16 @@ use Rattle.serde_json.specs.Data.{Data, array, object, string, Items}
 use Rattle.serde_json.specs.Find.{as_array, as_object, get}
 use Rattle.spec_avro.specs.Node.{Names}
 use Rattle.spec_avro.specs.declared.limits.TheConstants.{MOST_FIELDS, MOST_NODES}
-use Rattle.avro_schema_names.specs.Draft.{Draft}
-use Rattle.avro_schema_names.specs.Head.{Head, UnionHead, heads_of}
-use Rattle.avro_schema_names.specs.Aliases.{field_aliases, new_names}
-use Rattle.avro_schema_names.specs.Names.{field_name}
-use Rattle.avro_schema_names.specs.declared.error.SchemaError.{SchemaError}
-use Rattle.avro_schema_names.specs.declared.word.Form.{Form}
-use Rattle.avro_schema_names.specs.declared.word.Form.TheVariants as forms
+use Rattle.spec_schema.specs.Draft.{Draft}
+use Rattle.spec_schema.specs.Head.{Head, UnionHead, heads_of}
+use Rattle.spec_schema.specs.Aliases.{field_aliases, new_names}
+use Rattle.spec_schema.specs.Names.{field_name}
+use Rattle.spec_schema.specs.declared.schema_error.SchemaError.{SchemaError}
+use Rattle.spec_schema.specs.declared.word.Form.{Form}
+use Rattle.spec_schema.specs.declared.word.Form.TheVariants as forms
 use Rattle.avro_schema_paths.specs.declared.step.Step.{Step}
 use Rattle.avro_schema.specs.Contract.{object_as, object_walk}
-use Rattle.avro_schema.specs.Walk.{members, walk}
+use Rattle.spec_schema.specs.Walk.{members, walk}
 use Rattle.avro_schema.proofs.Members.{walk-object}
 use Rattle.avro_schema_faults.specs.Faults.{ComesTo, Fails, HasSoundParts, IsOfForm, MemberAt, Visit, field_after, first_member, listing, next_member, schema, to_field, to_fields, to_items, to_member, to_type, to_values, to_wrapped}
 use Rattle.avro_schema_faults.proofs.Bounds.{followed-first, followed-rest}

@@ -3,11 +3,11 @@ use Rattle.std.specs.Prelude.{◌≡◌, ◌<◌, ◌≤◌, ◌+◌, ◌⊎◌,
 use Rattle.std.specs.List.{position_from}
 use Rattle.serde_json.specs.Data.{Data}
 use Rattle.spec_avro.specs.Node.{Names}
-use Rattle.avro_schema.specs.Defaults.{field_default}
-use Rattle.avro_schema_names.specs.Draft.{Draft, DraftField, RecordDraft, Whole}
-use Rattle.avro_schema_names.specs.Head.{Head}
-use Rattle.avro_schema_names.specs.Names.{null_namespace}
-use Rattle.avro_schema_names.specs.declared.word.Form.TheVariants as forms
+use Rattle.spec_schema.specs.Defaults.{field_default}
+use Rattle.spec_schema.specs.Draft.{Draft, DraftField, RecordDraft, Whole}
+use Rattle.spec_schema.specs.Head.{Head}
+use Rattle.spec_schema.specs.Names.{null_namespace}
+use Rattle.spec_schema.specs.declared.word.Form.TheVariants as forms
 use Rattle.avro_schema_paths.specs.Places.{Path}
 use Rattle.avro_schema_faults.specs.Faults.{Comes, IsOfForm, schema}
 use Rattle.avro_schema_faults.specs.declared.bad_defaults.FieldPlace.{FieldPlace}

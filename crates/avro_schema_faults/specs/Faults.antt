@@ -6,18 +6,18 @@ use Rattle.serde_json.specs.Find.{as_object, get}
 use Rattle.spec_avro.specs.FullNames.{namespace_of}
 use Rattle.spec_avro.specs.Node.{Names}
 use Rattle.spec_avro.specs.declared.limits.TheConstants.{MOST_FIELDS, MOST_NODES}
-use Rattle.avro_schema_names.specs.Draft.{Draft, DraftField}
-use Rattle.avro_schema_names.specs.Head.{Head, ArrayHead, MapHead, Named, UnionHead, heads_of}
-use Rattle.avro_schema_names.specs.Aliases.{field_aliases, new_names}
-use Rattle.avro_schema_names.specs.Names.{field_name}
-use Rattle.avro_schema_names.specs.Word.{form_of}
-use Rattle.avro_schema_names.specs.declared.error.SchemaError.{SchemaError}
-use Rattle.avro_schema_names.specs.declared.word.Form.{Form}
-use Rattle.avro_schema_names.specs.declared.word.Form.TheVariants as forms
+use Rattle.spec_schema.specs.Draft.{Draft, DraftField}
+use Rattle.spec_schema.specs.Head.{Head, ArrayHead, MapHead, Named, UnionHead, heads_of}
+use Rattle.spec_schema.specs.Aliases.{field_aliases, new_names}
+use Rattle.spec_schema.specs.Names.{field_name}
+use Rattle.spec_schema.specs.Word.{form_of}
+use Rattle.spec_schema.specs.declared.schema_error.SchemaError.{SchemaError}
+use Rattle.spec_schema.specs.declared.word.Form.{Form}
+use Rattle.spec_schema.specs.declared.word.Form.TheVariants as forms
 use Rattle.avro_schema_paths.specs.Places.{Path}
 use Rattle.avro_schema_paths.specs.declared.step.Step.{Step}
 use Rattle.avro_schema_paths.specs.declared.step.Step.TheVariants as steps
-use Rattle.avro_schema.specs.Walk.{field, fields, walk}
+use Rattle.spec_schema.specs.Walk.{field, fields, walk}
 
 -- A value as the walk comes to it, in a namespace and after nodes of which these heads are seen: a schema, the list of
 -- a record's fields, or a field after those with the given names.

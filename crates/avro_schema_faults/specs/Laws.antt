@@ -1,8 +1,8 @@
 -- What the place of a fault means.
 use Rattle.std.specs.Prelude.{◌≡◌, ℕ, Some}
 use Rattle.serde_json.specs.Data.{Data}
-use Rattle.avro_schema_names.specs.declared.error.SchemaError.{SchemaError}
-use Rattle.avro_schema_names.specs.declared.word.Form.TheVariants as forms
+use Rattle.spec_schema.specs.declared.schema_error.SchemaError.{SchemaError}
+use Rattle.spec_schema.specs.declared.word.Form.TheVariants as forms
 use Rattle.avro_schema_paths.specs.Following.{follow}
 use Rattle.avro_schema_paths.specs.Places.{Path}
 use Rattle.avro_schema_faults.specs.DefaultPlaces.{IsRecordAt}

@@ -5,14 +5,14 @@ use Rattle.serde_json.specs.Read.{read}
 use Rattle.serde_json.specs.Written.{has_float}
 use Rattle.spec_avro.specs.Node.{Node}
 use Rattle.spec_avro.specs.declared.limits.TheConstants.{MOST_TEXT}
-use Rattle.avro_schema.specs.Schema.{declared, nodes_in, schema_of}
-use Rattle.avro_schema_names.specs.Draft.{Draft}
-use Rattle.avro_schema_names.specs.Names.{null_namespace}
-use Rattle.avro_schema_names.specs.declared.error.SchemaError.{SchemaError}
-use Rattle.avro_schema_names.specs.declared.error.SchemaError.TheVariants.{BadDefault, BadNumber, NoMemory, NotJson, TooLarge}
+use Rattle.spec_schema.specs.Schema.{declared, nodes_in, schema_of}
+use Rattle.spec_schema.specs.Draft.{Draft}
+use Rattle.spec_schema.specs.Names.{null_namespace}
+use Rattle.spec_schema.specs.declared.schema_error.SchemaError.{SchemaError}
+use Rattle.spec_schema.specs.declared.schema_error.SchemaError.TheVariants.{BadDefault, BadNumber, NoMemory, NotJson, TooLarge}
 use Rattle.avro_schema_paths.specs.Places.{Path}
 use Rattle.avro_schema_paths.specs.declared.step.Step.TheVariants as steps
-use Rattle.avro_schema.specs.Walk.{walk}
+use Rattle.spec_schema.specs.Walk.{walk}
 use Rattle.avro_schema_faults.specs.declared.faults.Fault.{Fault}
 use Rattle.avro_schema_faults.specs.DefaultPlaces.{IsFirstBadDefault, IsRecordAt}
 use Rattle.avro_schema_faults.specs.Faults.{IsFault, schema}

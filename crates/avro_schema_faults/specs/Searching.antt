@@ -1,14 +1,14 @@
 -- The search for the value that declares the node at an index.
 use Rattle.std.specs.Prelude.{◌≡◌, ◌<◌, ⊤, ℕ, ◌+◌, List, [], ◌∷◌, ◌++◌, length, Bool, true, false, Option, Some, None, Result, Ok, Err, slice_get}
 use Rattle.serde_json.specs.Data.{Data, Items}
-use Rattle.avro_schema_names.specs.Draft.{Draft, DraftField, RecordDraft}
-use Rattle.avro_schema_names.specs.Head.{Head}
-use Rattle.avro_schema_names.specs.Names.{null_namespace}
-use Rattle.avro_schema_names.specs.declared.word.Form.TheVariants as forms
+use Rattle.spec_schema.specs.Draft.{Draft, DraftField, RecordDraft}
+use Rattle.spec_schema.specs.Head.{Head}
+use Rattle.spec_schema.specs.Names.{null_namespace}
+use Rattle.spec_schema.specs.declared.word.Form.TheVariants as forms
 use Rattle.avro_schema_paths.specs.Places.{Path}
 use Rattle.avro_schema_paths.specs.declared.step.Step.{Step}
 use Rattle.avro_schema_paths.specs.declared.step.Step.TheVariants as steps
-use Rattle.avro_schema.specs.Walk.{field, fields, fields_after, members, walk}
+use Rattle.spec_schema.specs.Walk.{field, fields, fields_after, members, walk}
 use Rattle.avro_schema_faults.specs.DefaultPlaces.{IsRecordAt}
 use Rattle.avro_schema_faults.specs.Faults.{Comes, FieldAt, IsOfForm, MemberAt, Visit, field_after, listing, schema}
 

@@ -4,12 +4,12 @@ ghost use Rattle.std.specs.Prelude.{◌≡◌, [], is_some, OnOk};
 ghost use Rattle.serde_json.specs.Data.{array, string};
 ghost use Rattle.serde_json.specs.Find.{as_object};
 ghost use Rattle.serde_json.specs.View.{view, items_view};
-ghost use Rattle.avro_schema_names.specs.Word.{leaf_of, word_of};
-ghost use Rattle.avro_schema_names.specs.declared.word.Form.{Form};
+ghost use Rattle.spec_schema.specs.Word.{leaf_of, word_of};
+ghost use Rattle.spec_schema.specs.declared.word.Form.{Form};
 ghost use Rattle.avro_schema_faults.specs.Faults.{IsObject, IsOfForm};
 ghost use Rattle.avro_schema_faults.specs.Searching.{Behind, LeadsToField, Searches, SoughtIn, SoughtInField, SoughtInFields, SoughtInList, SoughtInMembers};
 
-use avro_schema_names::{Form, Word};
+use avro_schema_names::{Form, Word, form_of_type, leaf_of};
 use avro_schema_paths::Step;
 use serde_json::Value;
 use std::alloc::AllocError;
@@ -18,7 +18,7 @@ use std::alloc::AllocError;
 fn is_leaf(text: &str) -> bool
     ensures { result ≡ is_some (leaf_of (word_of text.now)) }
 {
-    Word::of_text(text).leaf().is_some()
+    leaf_of(Word::of_text(text)).is_some()
 }
 
 /// Returns what is left of `left` nodes after those that a text declares: a name declares none ("Primitive Types",
@@ -115,7 +115,7 @@ fn seek_in_object(
     requires object { IsObject (view value.now) }
     ensures { Searches result (SoughtIn (view value.now) left) trail.old.items trail.new.items }
 {
-    match Form::of_type(value.get("type")) {
+    match form_of_type(value.get("type")) {
         Form::Record => seek_in_record(value, left, trail),
         Form::Enum => Ok(left.checked_sub(1)),
         Form::Fixed => Ok(left.checked_sub(1)),

@@ -4,19 +4,19 @@ ghost use Rattle.std.specs.Prelude.{◌≡◌, true, [], is_some, map};
 ghost use Rattle.serde_json.specs.Data.{array};
 ghost use Rattle.serde_json.specs.Find.{as_object};
 ghost use Rattle.serde_json.specs.View.{view, items_view};
-ghost use Rattle.avro_schema_names.specs.declared.word.Form.{Form};
+ghost use Rattle.spec_schema.specs.declared.word.Form.{Form};
 ghost use Rattle.avro_schema_names.specs.Draft.{draft_field_of, field_names};
-ghost use Rattle.avro_schema_names.specs.Head.{UnionHead, heads_of};
+ghost use Rattle.spec_schema.specs.Head.{UnionHead, heads_of};
 ghost use Rattle.avro_schema_names.specs.Index.{IsNamespaceOf, text_of_namespace};
 ghost use Rattle.avro_schema.specs.Contract.{Walks, object_as, object_walk};
-ghost use Rattle.avro_schema.specs.Walk.{field, fields, fields_after, if_room, members, union_of, walk};
+ghost use Rattle.spec_schema.specs.Walk.{field, fields, fields_after, if_room, members, union_of, walk};
 ghost use Rattle.avro_schema_faults.specs.Faults.{IsObject, IsOfForm, field_after, listing, schema};
 ghost use Rattle.avro_schema_faults.specs.Trail.{Leaves, LeavesFrom, LeavesField, LeavesMember};
 
 use crate::types::{next_node, walk_enum, walk_fixed, walk_text};
 use avro_schema_names::{
     Draft, DraftField, Drafts, FieldList, Form, Namespace, SchemaError, are_apart, field_aliases,
-    field_name, new_names,
+    field_name, form_of_type, new_names,
 };
 use avro_schema_paths::Step;
 use avro_types::{Aliases, Kind, MOST_FIELDS};
@@ -138,7 +138,7 @@ fn walk_object<'v>(
     ensures place { Leaves result (schema (view value.now) (text_of_namespace enclosing.now) (heads_of drafts.old))
         trail.old.items trail.new.items }
 {
-    match Form::of_type(value.get("type")) {
+    match form_of_type(value.get("type")) {
         Form::Record => walk_record(alloc, value, enclosing, drafts, trail),
         Form::Enum => walk_enum(alloc, value, enclosing, drafts),
         Form::Fixed => walk_fixed(alloc, value, enclosing, drafts),

@@ -3,14 +3,15 @@
 ghost use Rattle.std.specs.Prelude.{◌≡◌, ◌<◌, ◌≤◌, ℕ, List, length, IfOk, IfErr, OnErr};
 ghost use Rattle.serde_json.specs.View.{view};
 ghost use Rattle.avro_types.specs.Node.{node_of};
-ghost use Rattle.avro_schema_names.specs.Head.{IsUnnamed, head_of_node};
+ghost use Rattle.avro_schema_names.specs.Head.{IsUnnamed};
+ghost use Rattle.spec_schema.specs.Head.{head_of_node};
 ghost use Rattle.avro_schema_names.specs.Index.{IsNamespaceOf, text_of_namespace};
 ghost use Rattle.avro_schema.specs.Contract.{Walks, object_as};
-ghost use Rattle.avro_schema.specs.Walk.{leaf, named, reference};
+ghost use Rattle.spec_schema.specs.Walk.{leaf, named, reference};
 
 use avro_schema_names::{
-    Draft, Drafts, Form, Namespace, SchemaError, Word, default_symbol, defined_node, new_names,
-    size_of, symbols_of,
+    Draft, Drafts, Form, Namespace, SchemaError, Word, default_symbol, defined_node, leaf_of,
+    new_names, size_of, symbols_of,
 };
 use avro_types::{Kind, MOST_NODES};
 use serde_json::Value;
@@ -68,7 +69,7 @@ pub(crate) fn walk_text(
     if word.is_left_out() {
         return Err(SchemaError::OutOfProfile);
     }
-    match word.leaf() {
+    match leaf_of(word) {
         Some(kind) => walk_leaf(kind, drafts),
         None => walk_reference(text, enclosing, drafts),
     }

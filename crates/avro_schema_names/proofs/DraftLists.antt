@@ -1,8 +1,10 @@
 -- Lists of drafts, and of their heads, and more of them.
 use Rattle.std.proofs.Common.{◌≡◌, ℕ, zero, suc, ◌<◌, List, [], ◌∷◌, ◌++◌, length, map, Bool, true, false, cond, refl, ap, ◌∙◌, arith, slice_get, set}
 use Rattle.avro_schema_names.specs.declared.draft.Draft as rust
-use Rattle.avro_schema_names.specs.Draft.{Draft, draft_of, drafts_of}
-use Rattle.avro_schema_names.specs.Head.{head_of, heads_of}
+use Rattle.spec_schema.specs.Draft.{Draft}
+use Rattle.avro_schema_names.specs.Draft.{draft_of, drafts_of}
+use Rattle.spec_schema.specs.Head.{head_of, heads_of}
+use Rattle.avro_schema_names.specs.Laws.Plain.{map-push}
 
 pub length-drafts_of : (ks : List rust.Draft) → length (drafts_of ks) ≡ length ks
 length-drafts_of [] = refl
@@ -39,7 +41,3 @@ get-front (x ∷ xs) ys (suc n) lt = get-front xs ys n (omega arith)
 
 pub get-extended : {A : Type 0} (all xs ys : List A) (n : ℕ) → all ≡ xs ++ ys → n < length xs → slice_get all n ≡ slice_get xs n
 get-extended all xs ys n e lt = ap (λ zs. slice_get zs n) e ∙ get-front xs ys n lt
-
-pub map-push : {A B : Type 0} (f : A → B) (xs : List A) (x : A) → map f (xs ++ x ∷ []) ≡ map f xs ++ f x ∷ []
-map-push f [] x = refl
-map-push f (y ∷ xs) x = ap (λ ys. f y ∷ ys) (map-push f xs x)

@@ -11,13 +11,15 @@ use Rattle.std.proofs.lemmas.Map.Text.{btree_set_updates_text}
 use Rattle.std.proofs.lemmas.Option.{slice_get_within, slice_get-get_or}
 use Rattle.std.proofs.lemmas.Slice.Eq.{bytes_eq-Decides}
 use Rattle.avro_types.specs.Laws.Placed.{or_last, position-behind, used-push}
-use Rattle.avro_schema_names.specs.Draft.{Draft, DraftField, field_names}
+use Rattle.spec_schema.specs.Draft.{Draft, DraftField}
+use Rattle.avro_schema_names.specs.Draft.{field_names}
 use Rattle.spec_avro.specs.FullNames.{has_dot, inside, namespace_of, unqualified}
-use Rattle.avro_schema_names.specs.Head.{Head, defined_at, defines, head_of, heads_of}
+use Rattle.spec_schema.specs.Head.{Head, defined_at, defines, head_of, heads_of}
 use Rattle.avro_schema_names.specs.Index.{AreNamesOf, IsIndexOf, namespaces_of}
 use Rattle.avro_types.specs.Laws.Booleans.{false_by, same_by}
 use Rattle.avro_types.specs.Laws.Dots.{namespace-inside, unqualified-inside}
-use Rattle.avro_schema_names.proofs.DraftLists.{heads_of-append, map-push}
+use Rattle.avro_schema_names.proofs.DraftLists.{heads_of-append}
+use Rattle.avro_schema_names.specs.Laws.Plain.{map-push}
 
 cond_or : (a b : Bool) → cond a true b ≡ (a || b)
 cond_or true b = refl

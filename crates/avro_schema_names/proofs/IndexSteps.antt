@@ -9,9 +9,10 @@ use Rattle.std.proofs.lemmas.Bool.{ltb-true, ltb-false}
 use Rattle.std.proofs.lemmas.Map.Text.{btree_map_updates_text}
 use Rattle.std.proofs.lemmas.Slice.Eq.{bytes_eq-Decides}
 use Rattle.avro_types.specs.Laws.Placed.{last_not, or_last}
-use Rattle.avro_schema_names.specs.Draft.{Draft}
+use Rattle.spec_schema.specs.Draft.{Draft}
 use Rattle.spec_avro.specs.FullNames.{inside}
-use Rattle.avro_schema_names.specs.Head.{Head, IsUnnamed, NullHead, BooleanHead, IntHead, LongHead, BytesHead, TextHead, ArrayHead, MapHead, UnionHead, Named, defined_at, defines, head_of, heads_of}
+use Rattle.spec_schema.specs.Head.{Head, NullHead, BooleanHead, IntHead, LongHead, BytesHead, TextHead, ArrayHead, MapHead, UnionHead, Named, defined_at, defines, head_of, heads_of}
+use Rattle.avro_schema_names.specs.Head.{IsUnnamed}
 use Rattle.avro_schema_names.specs.Index.{IsIndexOf, namespaces_of, with_namespace}
 use Rattle.avro_types.specs.Laws.Booleans.{no_true}
 use Rattle.avro_schema_names.proofs.DraftLists.{get-front}

@@ -5,7 +5,8 @@ use Rattle.std.proofs.Math.Seq.{drop-cons}
 use Rattle.std.proofs.Math.ListN.{drop_of_length-le}
 use Rattle.avro_schema_names.specs.declared.draft.Draft as rust
 use Rattle.avro_schema_names.specs.Draft.{draft_of, drafts_of}
-use Rattle.avro_schema_names.specs.Head.{Head, head_of, heads_of, is_same_type, is_union_head, head_at, are_apart}
+use Rattle.spec_schema.specs.Head.{Head, head_of, heads_of, is_same_type, is_union_head, head_at, are_apart}
+use Rattle.avro_types.specs.Laws.Plain.{map-one}
 
 at_place : (ds : List rust.Draft) (n : ℕ) (d : rust.Draft) → n < length ds → head_at (heads_of (drafts_of ds)) n ≡ head_of (draft_of (get_or ds n d))
 at_place [] n d lt = absurd (omega arith)
@@ -32,10 +33,6 @@ take-one : (ns : List ℕ) (i n : ℕ) → i < length ns → n ≡ get_or ns i n
 take-one [] i n lt is = absurd (omega arith)
 take-one (m ∷ ns) zero n lt is = ap (λ x. x ∷ []) (sym is)
 take-one (m ∷ ns) (suc i) n lt is = ap (λ xs. m ∷ xs) (take-one ns i n (omega arith) is)
-
-pub map-one : {A B : Type 0} (f : A → B) (xs : List A) (x : A) → map f (xs ++ x ∷ []) ≡ map f xs ++ f x ∷ []
-map-one f [] x = refl
-map-one f (y ∷ xs) x = ap (λ ys. f y ∷ ys) (map-one f xs x)
 
 pub apart-step : (heads : List Head) (ns : List ℕ) (i n : ℕ) → i < length ns → n ≡ get_or ns i n
     → apart_from heads ns i ≡ ((not (is_union_head (head_at heads n)) && not (list_any (is_same_type (head_at heads n)) (heads_at heads (take i ns)))) && apart_from heads ns (i + 1))

@@ -2,12 +2,12 @@
 use Rattle.std.proofs.Common.{◌≡◌, ℕ, Bool, true, false, eqb, ◌&&◌, not, List, [], ◌∷◌, ◌++◌, length, Option, Some, None, is_none, is_some, Ok, Err, refl, ap, ◌∙◌, arith}
 use Rattle.std.proofs.lemmas.Bool.{eqb-true}
 use Rattle.serde_json.specs.Data.{Data}
-use Rattle.avro_schema_names.specs.declared.error.SchemaError.{SchemaError}
-use Rattle.avro_schema_names.specs.declared.error.SchemaError.TheVariants.{BadName, Redefined}
+use Rattle.spec_schema.specs.declared.schema_error.SchemaError.{SchemaError}
+use Rattle.spec_schema.specs.declared.schema_error.SchemaError.TheVariants.{BadName, Redefined}
 use Rattle.spec_avro.specs.FullNames.{has_dot, full_name, inside, is_full_name, is_name, is_namespace, unqualified}
-use Rattle.avro_schema_names.specs.Head.{Head, defined_at}
-use Rattle.avro_schema_names.specs.Names.{if_new, new_name, text_of}
-use Rattle.avro_schema_names.specs.Word.{is_primitive, word_of}
+use Rattle.spec_schema.specs.Head.{Head, defined_at}
+use Rattle.spec_schema.specs.Names.{if_new, new_name, text_of}
+use Rattle.spec_schema.specs.Word.{is_primitive, word_of}
 use Rattle.avro_types.specs.Laws.Dots.{dotted-behind, unqualified-inside}
 use Rattle.avro_types.specs.Laws.NameParts.{full-inside}
 

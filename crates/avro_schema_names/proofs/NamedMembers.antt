@@ -12,7 +12,8 @@ use Rattle.std.proofs.lemmas.Slice.Eq.{bytes_eq-Decides}
 use Rattle.avro_schema_names.specs.Unnamed.{AreNamedMembers, unnamed_head}
 use Rattle.avro_schema_names.specs.declared.unions.Unnamed.{Unnamed}
 use Rattle.avro_schema_names.specs.declared.unions.Unnamed.TheVariants as unnamed
-use Rattle.avro_schema_names.specs.Head.{Head, NullHead, BooleanHead, IntHead, LongHead, BytesHead, TextHead, ArrayHead, MapHead, UnionHead, Named, defined_at, defines, is_named_head, is_same_type, is_union_head, head_at}
+use Rattle.spec_schema.specs.Head.{Head, NullHead, BooleanHead, IntHead, LongHead, BytesHead, TextHead, ArrayHead, MapHead, UnionHead, Named, defined_at, defines, is_same_type, is_union_head, head_at}
+use Rattle.avro_schema_names.specs.Head.{is_named_head}
 use Rattle.avro_schema_names.specs.Index.{AreOnce}
 use Rattle.avro_types.specs.Laws.Booleans.{or_false, or_true, same_by, same_number, some_inside}
 

@@ -7,7 +7,7 @@ use Rattle.std.proofs.lemmas.Option.{slice_get_within}
 use Rattle.std.proofs.lemmas.Slice.Eq.{bytes_eq-Decides}
 use Rattle.spec_avro.specs.FullNames.{namespace_of}
 use Rattle.avro_types.specs.Laws.Placed.{place-behind, place-none, or_last, used-push}
-use Rattle.avro_schema_names.specs.Head.{Head, NullHead, BooleanHead, IntHead, LongHead, BytesHead, TextHead, ArrayHead, MapHead, UnionHead, Named, defined_at, defines}
+use Rattle.spec_schema.specs.Head.{Head, NullHead, BooleanHead, IntHead, LongHead, BytesHead, TextHead, ArrayHead, MapHead, UnionHead, Named, defined_at, defines}
 use Rattle.avro_schema_names.specs.Index.{namespaces_after, namespaces_of, with_namespace}
 use Rattle.spec_avro.specs.Symbols.{is_used, place_of}
 use Rattle.avro_types.specs.Laws.Booleans.{no_true}

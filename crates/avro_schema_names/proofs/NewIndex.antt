@@ -10,9 +10,9 @@ use Rattle.std.proofs.lemmas.List.{length-set}
 use Rattle.std.proofs.lemmas.Map.Text.{btree_map_updates_text}
 use Rattle.std.proofs.lemmas.Slice.Eq.{bytes_eq-Decides}
 use Rattle.avro_types.specs.Laws.Placed.{last_not, named-last, none-used, place-behind, or_last, used-at}
-use Rattle.avro_schema_names.specs.Draft.{Draft}
+use Rattle.spec_schema.specs.Draft.{Draft}
 use Rattle.spec_avro.specs.FullNames.{has_dot, inside, is_full_name, is_name, namespace_of}
-use Rattle.avro_schema_names.specs.Head.{Head, Named, defined_at, head_of, heads_of}
+use Rattle.spec_schema.specs.Head.{Head, Named, defined_at, head_of, heads_of}
 use Rattle.avro_schema_names.specs.Index.{IsIndexOf, namespaces_of, with_namespace}
 use Rattle.spec_avro.specs.Symbols.{is_used, place_of}
 use Rattle.avro_types.specs.Laws.Booleans.{false_by, no_true, none_some, same_number, some_inside}

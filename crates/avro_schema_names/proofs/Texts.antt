@@ -4,14 +4,12 @@ use Rattle.std.specs.List.{list_all}
 use Rattle.std.proofs.Math.Seq.{drop-cons}
 use Rattle.serde_json.specs.View.{view, items_view}
 use Rattle.serde_json.specs.declared.value.Value.{Value}
-use Rattle.avro_schema_names.specs.declared.error.SchemaError.{SchemaError}
-use Rattle.avro_schema_names.specs.Attributes.{texts_in}
-use Rattle.avro_schema_names.specs.Fault.{◌>>=◌}
+use Rattle.spec_schema.specs.declared.schema_error.SchemaError.{SchemaError}
+use Rattle.spec_schema.specs.Attributes.{texts_in}
+use Rattle.spec_schema.specs.Steps.{◌>>=◌}
 use Rattle.spec_avro.specs.FullNames.{is_name}
-use Rattle.avro_schema_names.specs.Names.{text_of}
-
-abbrev pub names : List (String Global) → List (List ℕ)
-names ts = map string_bytes ts
+use Rattle.spec_schema.specs.Names.{text_of}
+use Rattle.avro_types.specs.Laws.Plain.{names}
 
 -- ---- texts that a value lists
 

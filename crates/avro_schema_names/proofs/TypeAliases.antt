@@ -5,7 +5,7 @@ use Rattle.spec_avro.specs.Aliases.{full_names}
 use Rattle.spec_avro.specs.FullNames.{full_name, has_dot, is_full_name, is_name, is_namespace}
 use Rattle.avro_types.specs.Laws.Booleans.{and_true}
 use Rattle.avro_types.specs.Laws.NameParts.{full-inside, undotted-part}
-use Rattle.avro_schema_names.proofs.Texts.{names}
+use Rattle.avro_types.specs.Laws.Plain.{names}
 
 -- a text means a full name by the rule just where it is one itself
 module _ (own : List ℕ) (space : is_namespace own ≡ true) where

@@ -9,22 +9,9 @@ use Rattle.spec_avro.specs.declared.limits.TheConstants.{MOST_SYMBOLS}
 use Rattle.avro_schema_names.specs.declared.draft.Draft as rust
 use Rattle.avro_schema_names.specs.declared.draft.Draft.TheVariants as drafts
 use Rattle.avro_schema_names.specs.declared.draft.DraftField as rust_field
-use Rattle.spec_avro.specs.Node.{Node, Names, EnumNode}
-use Rattle.avro_types.specs.Node.{names_of, node_of}
-
--- a field, and the value at its `default`
-pub record DraftField : Type 0 where
-  pub name : List ℕ
-  pub aliases : List (List ℕ)
-  pub node : ℕ
-  pub default : Option Data
-
-abbrev pub draft_field : List ℕ → List (List ℕ) → ℕ → Option Data → DraftField
-draft_field s aliases n default = record { name = s; aliases = aliases; node = n; default = default }
-
-pub data Draft : Type 0 where
-  Whole : Node → Draft
-  RecordDraft : Names → List DraftField → Draft
+use Rattle.spec_avro.specs.Node.{EnumNode, names_of}
+use Rattle.avro_types.specs.Node.{node_of}
+use Rattle.spec_schema.specs.Draft.{DraftField, Draft, Whole, RecordDraft}
 
 -- the value at an attribute, where there is one
 abbrev pub data_at : Option (Bor Value) → Option Data

@@ -8,9 +8,10 @@ use Rattle.std.specs.BTreeSet.{BTreeSet, contains_text}
 use Rattle.std.specs.Ordering.{nat_cmp}
 use Rattle.avro_types.specs.declared.name.Name.{Name}
 use Rattle.avro_schema_names.specs.declared.namespace.Namespace.{Namespace}
-use Rattle.avro_schema_names.specs.Draft.{Draft, DraftField, field_names}
+use Rattle.spec_schema.specs.Draft.{Draft, DraftField}
+use Rattle.avro_schema_names.specs.Draft.{field_names}
 use Rattle.spec_avro.specs.FullNames.{dot, has_dot, inside, namespace_of}
-use Rattle.avro_schema_names.specs.Head.{Head, Named, defined_at, heads_of}
+use Rattle.spec_schema.specs.Head.{Head, Named, defined_at, heads_of}
 use Rattle.spec_avro.specs.Symbols.{is_used, place_of}
 
 -- ---- namespaces

@@ -1,11 +1,7 @@
-pub mod Aliases
-pub mod Attributes
 pub mod Fault
-pub mod Names
-pub mod SchemaError
 pub mod Unnamed
-pub mod Word
 pub mod Draft
 pub mod Head
 pub mod Index
 pub mod JsonCode
+pub mod Laws

@@ -3,7 +3,8 @@ use Rattle.std.specs.Prelude.{◌≡◌, ℕ, ◌==◌, ◌&&◌, List}
 use Rattle.std.specs.BTreeSet.{BTreeSet, contains}
 use Rattle.std.specs.List.{list_any}
 use Rattle.std.specs.Ordering.{nat_cmp}
-use Rattle.avro_schema_names.specs.Head.{Head, NullHead, BooleanHead, IntHead, LongHead, BytesHead, TextHead, ArrayHead, MapHead, UnionHead, head_at, is_named_head}
+use Rattle.spec_schema.specs.Head.{Head, NullHead, BooleanHead, IntHead, LongHead, BytesHead, TextHead, ArrayHead, MapHead, UnionHead, head_at}
+use Rattle.avro_schema_names.specs.Head.{is_named_head}
 use Rattle.avro_schema_names.specs.declared.unions.Unnamed.{Unnamed}
 use Rattle.avro_schema_names.specs.declared.unions.Unnamed.TheVariants as unnamed
 

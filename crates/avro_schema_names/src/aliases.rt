@@ -5,19 +5,19 @@ ghost use Rattle.serde_json.specs.Find.{get};
 ghost use Rattle.serde_json.specs.View.{view};
 ghost use Rattle.std.specs.List.{list_all};
 ghost use Rattle.spec_avro.specs.FullNames.{is_full_name};
-ghost use Rattle.avro_types.specs.Node.{names_of};
-ghost use Rattle.avro_schema_names.specs.Aliases.{alias_texts, field_aliases, new_names, type_aliases};
+ghost use Rattle.spec_avro.specs.Node.{names_of};
+ghost use Rattle.spec_schema.specs.Aliases.{alias_texts, field_aliases, new_names, type_aliases};
 ghost use Rattle.avro_schema_names.specs.Draft.{data_at};
 ghost use Rattle.avro_schema_names.specs.Fault.{Tells};
-ghost use Rattle.avro_schema_names.specs.Head.{defined_at, heads_of};
+ghost use Rattle.spec_schema.specs.Head.{defined_at, heads_of};
 ghost use Rattle.avro_schema_names.specs.Index.{IsNamespaceOf, IsNumbered, text_of_namespace};
 
-use crate::error::SchemaError;
 use crate::names::{NewName, is_full_name, new_name};
 use crate::type_attributes::{are_names, texts_of};
 use crate::{Drafts, Namespace};
 use avro_types::{Aliases, Name};
 use serde_json::Value;
+use spec_schema::SchemaError;
 use std::alloc::Global;
 
 /// Returns the texts that `aliases` lists, or none where the attribute is missing; `Unknown` where it is no list of
@@ -39,7 +39,7 @@ fn are_full_names(texts: &[String]) -> bool
 }
 
 /// Returns the aliases of a type, as full names.
-#[tactic(auto, unfolding(crate::specs::Aliases::type_aliases))]
+#[tactic(auto, unfolding(spec_schema::specs::Aliases::type_aliases))]
 fn type_aliases(alloc: Global, name: &Name, value: Option<&Value>) -> Result<Aliases, SchemaError>
     ensures { Tells (λ a. a) result (type_aliases name.now (data_at value.entry)) }
 {
@@ -53,7 +53,7 @@ fn type_aliases(alloc: Global, name: &Name, value: Option<&Value>) -> Result<Ali
 
 /// Returns the aliases of a field. `Unknown` where the attribute is no list of texts, `BadName` where a text is no
 /// name.
-#[tactic(auto, using(crate::proofs::Texts::all_names), unfolding(crate::specs::Aliases::field_aliases))]
+#[tactic(auto, using(crate::proofs::Texts::all_names), unfolding(spec_schema::specs::Aliases::field_aliases))]
 pub fn field_aliases(alloc: Global, value: Option<&Value>) -> Result<Vec<String>, SchemaError>
     ensures { Tells (λ v. map string_bytes v.items) result (field_aliases (data_at value.entry)) }
 {
@@ -76,7 +76,7 @@ pub struct NewNames {
 ///
 /// Errors of the name (`new_name`) come before those of the aliases: `Unknown` where they are no list of texts,
 /// `BadName` where one of them is no full name.
-#[tactic(auto, unfolding(crate::specs::Aliases::new_names))]
+#[tactic(auto, unfolding(spec_schema::specs::Aliases::new_names))]
 pub fn new_names(
     alloc: Global,
     value: &Value,

@@ -4,8 +4,10 @@ ghost use Rattle.std.specs.Prelude.{◌≡◌, [], ◌∷◌, ◌++◌, length, 
 ghost use Rattle.spec_avro.specs.FullNames.{has_dot, inside, namespace_of};
 ghost use Rattle.avro_types.specs.Node.{node_of};
 ghost use Rattle.spec_avro.specs.Symbols.{is_used, place_of};
-ghost use Rattle.avro_schema_names.specs.Draft.{Whole, draft_field_of, draft_of, drafts_of, field_names};
-ghost use Rattle.avro_schema_names.specs.Head.{IsUnnamed, Named, defined_at, head_of, head_of_node, heads_of};
+ghost use Rattle.spec_schema.specs.Draft.{Whole};
+ghost use Rattle.avro_schema_names.specs.Draft.{draft_field_of, draft_of, drafts_of, field_names};
+ghost use Rattle.avro_schema_names.specs.Head.{IsUnnamed};
+ghost use Rattle.spec_schema.specs.Head.{Named, defined_at, head_of, head_of_node, heads_of};
 ghost use Rattle.avro_schema_names.specs.Index.{AreOnce, BeginWithNoDot, IsNamespaceOf, IsNumbered, namespaces_of, text_of_namespace};
 
 use crate::draft::{Draft, DraftField};
@@ -30,7 +32,8 @@ impl<'v> Model for Drafts<'v> {
     ghost use Rattle.std.specs.Prelude.{List};
     ghost use Rattle.std.specs.Coded.{codes};
     ghost use Rattle.avro_types.specs.DatumCode.{datum_coded};
-    ghost use Rattle.avro_schema_names.specs.Draft.{Draft, drafts_of};
+    ghost use Rattle.spec_schema.specs.Draft.{Draft};
+    ghost use Rattle.avro_schema_names.specs.Draft.{drafts_of};
     ghost use Rattle.avro_schema_names.specs.Index.{IsIndexOf};
     ghost use Rattle.avro_schema_names.specs.JsonCode.{json_coded};
 
@@ -214,7 +217,8 @@ pub struct FieldList<'v> {
 impl<'v> Model for FieldList<'v> {
     ghost use Rattle.std.specs.Prelude.{List, map};
     ghost use Rattle.std.specs.Coded.{codes};
-    ghost use Rattle.avro_schema_names.specs.Draft.{DraftField, draft_field_of};
+    ghost use Rattle.spec_schema.specs.Draft.{DraftField};
+    ghost use Rattle.avro_schema_names.specs.Draft.{draft_field_of};
     ghost use Rattle.avro_schema_names.specs.Index.{AreNamesOf};
     ghost use Rattle.avro_schema_names.specs.JsonCode.{json_coded};
 

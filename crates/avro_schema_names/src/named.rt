@@ -59,8 +59,8 @@ pub(crate) fn add_first_named<T: Drop>(
     value: T,
 ) -> Result<(), AllocError>
     ensures values { OnOk result (values.new.items ≡ values.old.items ++ value ∷ []) }
-    ensures namespace { OnOk result (UpdatesBy string_cmp (λ k. slice_cmp nat_cmp name.now.namespace.now (string_bytes k))
-        namespaces.old namespaces.new (Some (length scopes.old.items))) }
+    ensures namespace { OnOk result (UpdatesBy string_cmp (λ k. slice_cmp nat_cmp name.now.namespace.now
+        (string_bytes k)) namespaces.old namespaces.new (Some (length scopes.old.items))) }
     ensures scope { OnOk result (HasOnlyScope name.now.last.now (length values.old.items) scopes.old.items
         scopes.new.items) }
     ensures same_values { OnErr result (values.new.items ≡ values.old.items) }

@@ -5,18 +5,18 @@ ghost use Rattle.std.specs.List.{list_all};
 ghost use Rattle.serde_json.specs.Find.{as_str};
 ghost use Rattle.avro_schema_names.specs.Draft.{data_at, field_names};
 ghost use Rattle.avro_schema_names.specs.Fault.{Tells};
-ghost use Rattle.avro_schema_names.specs.declared.error.SchemaError.TheVariants.{NoMemory};
+ghost use Rattle.spec_schema.specs.declared.schema_error.SchemaError.TheVariants.{NoMemory};
 ghost use Rattle.spec_avro.specs.FullNames.{full_name, has_dot, inside, is_full_name, is_letter, is_letter_or_digit, is_name, is_namespace};
-ghost use Rattle.avro_schema_names.specs.Head.{defined_at, heads_of};
+ghost use Rattle.spec_schema.specs.Head.{defined_at, heads_of};
 ghost use Rattle.avro_schema_names.specs.Index.{IsNamespaceOf, IsNumbered, text_of_namespace};
-ghost use Rattle.avro_schema_names.specs.Names.{field_name, if_new, new_name, text_of};
-ghost use Rattle.avro_schema_names.specs.Word.{is_primitive, word_of};
+ghost use Rattle.spec_schema.specs.Names.{field_name, if_new, new_name, text_of};
+ghost use Rattle.spec_schema.specs.Word.{is_primitive, word_of};
 
-use crate::error::SchemaError;
 use crate::word::Word;
 use crate::{Drafts, FieldList, Namespace};
 use avro_types::Name;
 use serde_json::Value;
+use spec_schema::SchemaError;
 use std::alloc::Global;
 use std::sync::ArcStr;
 
@@ -103,7 +103,7 @@ pub struct NewName {
 
 /// Returns the new name with a last part in the enclosing namespace; `BadName` where it is against the rule,
 /// `Redefined` where the full name has a node.
-#[tactic(auto, unfolding(crate::specs::Names::if_new))]
+#[tactic(auto, unfolding(spec_schema::specs::Names::if_new))]
 fn inherited_name(
     alloc: Global,
     last: &str,
@@ -133,7 +133,7 @@ fn inherited_name(
 
 /// Returns the new name with a last part in a namespace of its own; `BadName` where it is against the rule,
 /// `Redefined` where the full name has a node.
-#[tactic(auto, unfolding(crate::specs::Names::if_new))]
+#[tactic(auto, unfolding(spec_schema::specs::Names::if_new))]
 fn own_name(
     alloc: Global,
     namespace: &str,
@@ -161,7 +161,7 @@ fn own_name(
 ///
 /// `Unknown` where `name` is no text, or `namespace`, where that counts; `BadName` where the full name is against the
 /// rule, or a primitive type's; `Redefined` where it has a node.
-#[tactic(auto, unfolding(crate::specs::Names::new_name))]
+#[tactic(auto, unfolding(spec_schema::specs::Names::new_name))]
 pub fn new_name(
     alloc: Global,
     name: Option<&Value>,
@@ -209,7 +209,7 @@ pub fn defined_node(text: &str, enclosing: &Namespace, drafts: &Drafts) -> Optio
 
 /// Returns the name of a field that comes after others. `Unknown` where it is no text, `BadName` where it is no name
 /// or another field's.
-#[tactic(auto, unfolding(crate::specs::Names::field_name))]
+#[tactic(auto, unfolding(spec_schema::specs::Names::field_name))]
 pub fn field_name(
     alloc: Global,
     name: Option<&Value>,

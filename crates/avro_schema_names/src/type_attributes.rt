@@ -3,17 +3,17 @@
 ghost use Rattle.std.specs.Prelude.{◌≡◌, ◌≢◌, ◌≤◌, ◌&&◌, if◌then◌else◌, IfOk, Ok, Err, length, map, string_bytes};
 ghost use Rattle.std.specs.List.{list_all};
 ghost use Rattle.serde_json.specs.View.{items_view};
-ghost use Rattle.avro_schema_names.specs.Attributes.{default_symbol, size_of, symbols_of, texts_in, texts_of};
+ghost use Rattle.spec_schema.specs.Attributes.{default_symbol, size_of, symbols_of, texts_in, texts_of};
 ghost use Rattle.avro_schema_names.specs.Draft.{data_at};
 ghost use Rattle.avro_schema_names.specs.Fault.{Tells};
-ghost use Rattle.avro_schema_names.specs.declared.error.SchemaError.TheVariants.{NoMemory};
+ghost use Rattle.spec_schema.specs.declared.schema_error.SchemaError.TheVariants.{NoMemory};
 ghost use Rattle.spec_avro.specs.FullNames.{is_name};
 ghost use Rattle.spec_avro.specs.Symbols.{are_distinct};
 
-use crate::error::SchemaError;
 use crate::names::{is_name, text_of};
 use avro_types::{MOST_FIXED, MOST_SYMBOLS, Symbols};
 use serde_json::Value;
+use spec_schema::SchemaError;
 use std::alloc::Global;
 
 /// Returns the texts that values are; `Unknown` where a value is no text.
@@ -62,7 +62,7 @@ fn as_symbols(alloc: Global, texts: Vec<String>) -> Result<Symbols, SchemaError>
 
 /// Returns the symbols of an enum. `Unknown` where they are no list of texts, `BadSymbols` where one is no name or
 /// occurs twice, and else `TooLarge` where there are more than `MOST_SYMBOLS`.
-#[tactic(auto, unfolding(crate::specs::Attributes::symbols_of))]
+#[tactic(auto, unfolding(spec_schema::specs::Attributes::symbols_of))]
 pub fn symbols_of(alloc: Global, value: Option<&Value>) -> Result<Symbols, SchemaError>
     ensures symbols { Tells (λ s. s) result (symbols_of (data_at value.entry)) }
     ensures few { IfOk result (λ s. length (s) ≤ MOST_SYMBOLS) }

@@ -3,7 +3,8 @@
 ghost use Rattle.std.specs.Prelude.{◌≡◌, ◌++◌, ◌∷◌, ◌&&◌, [], map, not, slice_get, true, IfOk, MatchOption};
 ghost use Rattle.std.specs.List.{list_any};
 ghost use Rattle.avro_schema_names.specs.Draft.{draft_of, drafts_of};
-ghost use Rattle.avro_schema_names.specs.Head.{are_apart, head_at, head_of, heads_of, is_named_head, is_same_type, is_union_head};
+ghost use Rattle.spec_schema.specs.Head.{are_apart, head_at, head_of, heads_of, is_same_type, is_union_head};
+ghost use Rattle.avro_schema_names.specs.Head.{is_named_head};
 ghost use Rattle.avro_schema_names.specs.Unnamed.{AreNamedMembers, unnamed_head};
 
 use crate::{Draft, Drafts};

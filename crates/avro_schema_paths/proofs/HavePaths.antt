@@ -4,12 +4,12 @@ use Rattle.std.proofs.lemmas.Bool.{cases_lt}
 use Rattle.serde_json.specs.Data.{Data, array, object, Items}
 use Rattle.serde_json.specs.Find.{get, get_item}
 use Rattle.spec_avro.specs.Node.{Node, FieldNode, ArrayNode, MapNode, UnionNode}
-use Rattle.avro_schema_names.specs.Word.{form_of, leaf_of, word_of}
-use Rattle.avro_schema_names.specs.Draft.{Draft, Whole, RecordDraft, DraftField}
-use Rattle.avro_schema.specs.Declaring.{DeclareFields, DeclareMembers, Declares, IsPrimitive, a_field, a_fixed, a_map, a_member, a_primitive, a_record, a_reference, a_union, an_array, an_enum, another, no_more_fields, no_more_members, null_type, boolean_type, int_type, long_type, bytes_type, text_type}
+use Rattle.spec_schema.specs.Word.{form_of, leaf_of, word_of}
+use Rattle.spec_schema.specs.Draft.{Draft, Whole, RecordDraft, DraftField}
+use Rattle.spec_schema.specs.Declaring.{DeclareFields, DeclareMembers, Declares, IsPrimitive, a_field, a_fixed, a_map, a_member, a_primitive, a_record, a_reference, a_union, an_array, an_enum, another, no_more_fields, no_more_members, null_type, boolean_type, int_type, long_type, bytes_type, text_type}
 use Rattle.avro_schema.proofs.WordCases.{other_is}
-use Rattle.avro_schema.specs.DefaultData.{AreFieldsOf, AreNodesOf, IsFieldOf, IsNodeOf, a_record_of, a_whole, no_more_nodes, one_more_field, one_more_node, with_default, without_default}
-use Rattle.avro_schema.specs.DefaultData as defaults
+use Rattle.spec_schema.specs.DefaultData.{AreFieldsOf, AreNodesOf, IsFieldOf, IsNodeOf, a_record_of, a_whole, no_more_nodes, one_more_field, one_more_node, with_default, without_default}
+use Rattle.spec_schema.specs.DefaultData as defaults
 use Rattle.avro_schema_paths.specs.Laws.{EachNodeHasPath}
 use Rattle.avro_schema_paths.specs.Parts.{field_steps, member_steps}
 use Rattle.avro_schema_paths.specs.Places.{IsPathOf, Path, Places, a_type, in_wrapper, in_array, in_map, in_record, in_union, a_word, declares, form_at, item_at, members_at, types_at, value_at}

@@ -9,9 +9,9 @@ use Rattle.serde_json.specs.View.{view, items_view}
 use Rattle.serde_json.specs.declared.value.Value.{Value}
 use Rattle.spec_avro.specs.Node.{Node, FieldNode}
 use Rattle.avro_types.specs.Node.{fields_of}
-use Rattle.avro_schema_names.specs.Word.{leaf_of, word_of}
-use Rattle.avro_schema_names.specs.declared.word.Form.{Form}
-use Rattle.avro_schema_names.specs.declared.word.Form.TheVariants as forms
+use Rattle.spec_schema.specs.Word.{leaf_of, word_of}
+use Rattle.spec_schema.specs.declared.word.Form.{Form}
+use Rattle.spec_schema.specs.declared.word.Form.TheVariants as forms
 use Rattle.avro_schema_paths.specs.Parts.{type_in, member_steps, field_steps, InWrapper, InForm, InHeld, InMember, InObject}
 use Rattle.avro_schema_paths.specs.Places.{Path, Places, item_at, value_at, a_type, a_union, a_word, declares, form_at, in_wrapper, in_array, in_map, in_record, in_union, members_at, types_at}
 use Rattle.avro_schema_paths.specs.Adds.{IsThis}

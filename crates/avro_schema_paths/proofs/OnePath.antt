@@ -4,15 +4,15 @@ use Rattle.std.proofs.Common.{◌≡◌, ◌⊎◌, inl, inr, ℕ, zero, suc, �
 use Rattle.serde_json.specs.Data.{Data, array, object, Items, Members}
 use Rattle.serde_json.specs.Find.{get, get_item, get_member}
 use Rattle.spec_avro.specs.Node.{Node, ArrayNode, MapNode, UnionNode, EnumNode, FixedNode}
-use Rattle.avro_schema_names.specs.Word.{form_of, is_primitive, leaf_of, word_of}
-use Rattle.avro_schema_names.specs.declared.word.Word.{Word}
-use Rattle.avro_schema_names.specs.declared.word.Word.TheVariants as words
-use Rattle.avro_schema_names.specs.declared.word.Form.{Form}
-use Rattle.avro_schema_names.specs.declared.word.Form.TheVariants as forms
-use Rattle.avro_schema_names.specs.Draft.{Draft, Whole, RecordDraft, DraftField}
-use Rattle.avro_schema.specs.Declaring.{DeclareFields, DeclareMembers, Declares, a_field, a_fixed, a_map, a_member, a_primitive, a_record, a_reference, a_union, an_array, an_enum, another, no_more_fields, no_more_members}
+use Rattle.spec_schema.specs.Word.{form_of, is_primitive, leaf_of, word_of}
+use Rattle.spec_schema.specs.declared.word.Word.{Word}
+use Rattle.spec_schema.specs.declared.word.Word.TheVariants as words
+use Rattle.spec_schema.specs.declared.word.Form.{Form}
+use Rattle.spec_schema.specs.declared.word.Form.TheVariants as forms
+use Rattle.spec_schema.specs.Draft.{Draft, Whole, RecordDraft, DraftField}
+use Rattle.spec_schema.specs.Declaring.{DeclareFields, DeclareMembers, Declares, a_field, a_fixed, a_map, a_member, a_primitive, a_record, a_reference, a_union, an_array, an_enum, another, no_more_fields, no_more_members}
 use Rattle.avro_schema.proofs.WordCases.{no_primitive_is, other_is}
-use Rattle.avro_schema.specs.DefaultData.{AreNodesOf}
+use Rattle.spec_schema.specs.DefaultData.{AreNodesOf}
 use Rattle.avro_schema_paths.specs.Adds.{IsThis}
 use Rattle.avro_schema_paths.specs.Laws.{EachNodeHasOnePath, OnlyNodesHavePaths}
 use Rattle.avro_schema_paths.specs.Parts.{InFields, InForm, InHeld, InWrapper, field_steps, member_steps, type_in}

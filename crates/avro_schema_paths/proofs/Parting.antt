@@ -8,9 +8,9 @@ use Rattle.serde_json.specs.declared.number.Number.{Number}
 use Rattle.serde_json.specs.declared.value.Value as json
 use Rattle.serde_json.specs.declared.value.Value.{Value, the_lemmas}
 use Rattle.spec_avro.specs.Node.{Node}
-use Rattle.avro_schema_names.specs.Word.{form_of}
-use Rattle.avro_schema_names.specs.declared.word.Form.{Form}
-use Rattle.avro_schema_names.specs.declared.word.Form.TheVariants as forms
+use Rattle.spec_schema.specs.Word.{form_of}
+use Rattle.spec_schema.specs.declared.word.Form.{Form}
+use Rattle.spec_schema.specs.declared.word.Form.TheVariants as forms
 use Rattle.avro_schema_paths.specs.Parts.{InWrapper, InField, InFields, InForm, InHeld, InMember, InObject, field_steps, member_steps, type_in}
 use Rattle.avro_schema_paths.specs.Places.{Path, Places, item_at, members_at, types_at, value_at}
 use Rattle.avro_schema_paths.specs.Adds.{IsThis, Adds}

@@ -1,7 +1,7 @@
 -- A text reads as one value, so what is said of the value that a schema's text reads as is said of this one.
 use Rattle.std.proofs.Common.{◌≡◌, Some, sym, ◌∙◌, subst}
 use Rattle.serde_json.specs.Data.{Data}
-use Rattle.avro_schema.specs.SchemaLaw.{DeclaresSchema}
+use Rattle.spec_schema.specs.SchemaLaw.{DeclaresSchema}
 use Rattle.avro_schema_paths.specs.Laws.{ReadValueIsDeclared}
 
 pub value_is_declared : ReadValueIsDeclared

@@ -3,7 +3,7 @@ use Rattle.std.specs.Prelude.{◌≡◌, ℕ, ◌<◌, List, Some, length}
 use Rattle.serde_json.specs.Data.{Data}
 use Rattle.serde_json.specs.Read.{read}
 use Rattle.spec_avro.specs.Node.{Node}
-use Rattle.avro_schema.specs.SchemaLaw.{DeclaresSchema, ReadsAsSchema}
+use Rattle.spec_schema.specs.SchemaLaw.{DeclaresSchema, ReadsAsSchema}
 use Rattle.avro_schema_paths.specs.Places.{IsPathOf, Path}
 
 -- each node has a path

@@ -2,7 +2,7 @@
 
 ghost use Rattle.std.specs.Prelude.{◌≡◌, length, IfOk};
 ghost use Rattle.serde_json.specs.View.{view};
-ghost use Rattle.avro_schema.specs.SchemaLaw.{DeclaresSchema};
+ghost use Rattle.spec_schema.specs.SchemaLaw.{DeclaresSchema};
 ghost use Rattle.avro_schema_paths.specs.Adds.{ArePaths};
 ghost use Rattle.avro_schema_paths.specs.ByNumber.{AreByNumber};
 

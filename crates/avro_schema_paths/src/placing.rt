@@ -6,7 +6,7 @@ ghost use Rattle.serde_json.specs.Data.{array, string};
 ghost use Rattle.serde_json.specs.View.{view, items_view};
 ghost use Rattle.avro_types.specs.Node.{fields_of as nodes_fields};
 ghost use Rattle.spec_avro.specs.WellFormed.{FieldsBelow};
-ghost use Rattle.avro_schema_names.specs.Word.{leaf_of, word_of};
+ghost use Rattle.spec_schema.specs.Word.{leaf_of, word_of};
 ghost use Rattle.avro_schema_names.specs.Draft.{data_at};
 ghost use Rattle.avro_schema_paths.specs.Parts.{InField, InFields, InHeld, InMember, InObject, InWrapper};
 ghost use Rattle.avro_schema_paths.specs.Places.{Places, types_at, item_at, value_at};
@@ -15,7 +15,7 @@ ghost use Rattle.avro_schema_paths.specs.Adds.{Adds, IsThis};
 use crate::entries::{NodePath, Place, add_node, longer};
 use crate::parts::{fields_of, item_of, member_at, members_of, type_of, value_of};
 use crate::step::Step;
-use avro_schema_names::{Form, Word};
+use avro_schema_names::{Form, Word, form_of_type, leaf_of};
 use avro_types::{Field, Nodes};
 use serde_json::Value;
 use std::alloc::{AllocError, Global};
@@ -24,7 +24,7 @@ use std::alloc::{AllocError, Global};
 fn is_leaf(text: &str) -> bool
     ensures { result ≡ is_some (leaf_of (word_of text.now)) }
 {
-    Word::of_text(text).leaf().is_some()
+    leaf_of(Word::of_text(text)).is_some()
 }
 
 /// Adds the node that a text declares: none where it is a name ("Primitive Types", "Names"). `nodes` is read by the
@@ -126,7 +126,7 @@ fn add_object(
     ensures { OnOk result (Adds (InObject nodes.now (view value.now) node place.now.outer.now place.now.path.now)
         out.old.items out.new.items) }
 {
-    match Form::of_type(value.get("type")) {
+    match form_of_type(value.get("type")) {
         Form::Record => add_record(alloc, nodes, value.get("fields"), node, place, out),
         Form::Enum => add_node(alloc, node, place.outer, out),
         Form::Fixed => add_node(alloc, node, place.outer, out),

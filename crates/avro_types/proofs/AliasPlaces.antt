@@ -19,7 +19,8 @@ use Rattle.spec_avro.specs.Symbols.{is_used}
 use Rattle.avro_types.specs.Laws.Booleans.{both, false_by, no_true, or_false, same_by}
 use Rattle.avro_types.specs.Laws.Dots.{back-undotted, dotted-behind, namespace-inside, split-parts, unqualified-behind, unqualified-inside}
 use Rattle.avro_types.specs.Laws.NameParts.{name-undotted}
-use Rattle.avro_types.proofs.SymbolPositions.{names, names-take}
+use Rattle.avro_types.proofs.SymbolPositions.{names-take}
+use Rattle.avro_types.specs.Laws.Plain.{names}
 
 abbrev Lasts : Type 0
 Lasts = set.BTreeSet (String Global)

@@ -12,15 +12,9 @@ use Rattle.std.proofs.lemmas.Slice.Eq.{bytes_eq-Decides}
 use Rattle.spec_avro.specs.Symbols.{are_new, is_used, place_of}
 use Rattle.avro_types.specs.Laws.Booleans.{is_nowhere}
 use Rattle.avro_types.specs.Laws.Placed.{named-last, none-used, place-behind, used-at, place-within}
+use Rattle.avro_types.specs.Laws.Plain.{map-one, names}
 
 -- ---- texts one after another
-
-map-one : {A B : Type 0} (f : A → B) (xs : List A) (x : A) → map f (xs ++ x ∷ []) ≡ map f xs ++ f x ∷ []
-map-one f [] x = refl
-map-one f (y ∷ xs) x = ap (λ ys. f y ∷ ys) (map-one f xs x)
-
-abbrev pub names : List (String Global) → List (List ℕ)
-names ts = map string_bytes ts
 
 take-one : (ts : List (String Global)) (i : ℕ) (t : String Global) → i < length ts → t ≡ get_or ts i t → take (suc i) ts ≡ take i ts ++ t ∷ []
 take-one [] i t lt is = absurd (omega arith)

@@ -4,3 +4,4 @@ pub mod Dots
 pub mod LargerSizes
 pub mod NameParts
 pub mod Placed
+pub mod Plain

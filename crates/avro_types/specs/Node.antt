@@ -1,10 +1,10 @@
 -- The nodes that values of the code are. This project's own.
-use Rattle.std.specs.Prelude.{ℕ, List, map, option_map, string_bytes}
+use Rattle.std.specs.Prelude.{List, map, option_map, string_bytes}
 use Rattle.avro_types.specs.Datum.{datum_of}
 use Rattle.avro_types.specs.declared.kind.Kind.{Kind}
 use Rattle.avro_types.specs.declared.kind.Kind.TheVariants as kinds
 use Rattle.avro_types.specs.declared.kind.Field.{Field}
-use Rattle.spec_avro.specs.Node.{Names, FieldNode, Node, NullNode, BooleanNode, IntNode, LongNode, BytesNode, TextNode, FixedNode, EnumNode, ArrayNode, MapNode, UnionNode, RecordNode}
+use Rattle.spec_avro.specs.Node.{FieldNode, Node, NullNode, BooleanNode, IntNode, LongNode, BytesNode, TextNode, FixedNode, EnumNode, ArrayNode, MapNode, UnionNode, RecordNode, names_of}
 
 abbrev pub field_of : Field → FieldNode
 field_of f =
@@ -17,9 +17,6 @@ field_of f =
 
 abbrev pub fields_of : List Field → List FieldNode
 fields_of fs = map field_of fs
-
-abbrev pub names_of : List ℕ → List (List ℕ) → Names
-names_of full aliases = record { full = full; aliases = aliases }
 
 abbrev pub node_of : Kind → Node
 node_of kinds.Null = NullNode

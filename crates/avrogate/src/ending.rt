@@ -1,7 +1,7 @@
 //! How the program ends.
 
 ghost use Rattle.std.specs.Prelude.{◌≡◌, ◌≢◌, IfErr, IfOk};
-ghost use Rattle.commands.specs.declared.status.Status.TheVariants.{BadTraffic, NoMemory};
+ghost use Rattle.spec_lines.specs.declared.status.Status.TheVariants.{BadTraffic, NoMemory};
 
 use commands::{RunError, Status};
 use std::fmt::Display;

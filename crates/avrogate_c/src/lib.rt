@@ -7,7 +7,8 @@
 ghost use Rattle.std.specs.Prelude.{◌≡◌, None, map};
 ghost use Rattle.embedding.specs.Batch.{ReportsBatch, range_of};
 ghost use Rattle.embedding.specs.Opening.{TellsOpening, TellsReading};
-ghost use Rattle.embedding.specs.Report.{ReportsMessage, ReportsPayload, Tells};
+ghost use Rattle.spec_library.specs.Report.{ReportsMessage, ReportsPayload};
+ghost use Rattle.embedding.specs.Report.{Tells};
 ghost use Rattle.embedding.specs.Words.{WritesWords};
 
 use embedding::{BatchItem, Ids, ReportNumbers, VERSION, report_reading, write_words};

@@ -6,15 +6,10 @@ use Rattle.std.specs.Result.{OkIff, result_ok}
 use Rattle.std.specs.Str.Parse.{ParsesUnsigned, digits_value}
 use Rattle.std.proofs.lemmas.Bool.{leb-true, le-leb, ltb-true, ltb-false}
 use Rattle.std.proofs.lemmas.Str.Parse.{IsDigitsTest, IsNumeralModel, numerals_by_value, parse_digits}
-use Rattle.assembler.specs.Words.{is_numeral}
-use Rattle.command_io.specs.Words.{number_below}
-
-both : (a b : Bool) → (a && b) ≡ true → (a ≡ true) × (b ≡ true)
-both true b e = (refl, e)
-both false b e = absurd cc
-
-abbrev are_digits : List ℕ → Type 0
-are_digits ds = list_all is_ascii_digit ds ≡ true
+use Rattle.spec_machine.specs.ListingWords.{is_numeral}
+use Rattle.spec_lines.specs.Words.{number_below}
+use Rattle.avro_bytes.specs.Laws.Plain.{both}
+use Rattle.assembler.specs.Laws.Plain.{are_digits}
 
 tells : IsDigitsTest are_digits
 tells = record {

@@ -4,8 +4,9 @@ use Rattle.std.specs.List.{position_or_len, before_first, after_first}
 use Rattle.std.specs.Str.{IsUtf8, is_utf8}
 use Rattle.std.proofs.lemmas.Bool.{eqb-true}
 use Rattle.std.proofs.lemmas.Str.{IsUtf8-from_is_utf8, is_utf8-from_IsUtf8}
-use Rattle.assembler.specs.Words.{in_front, parts, words}
-use Rattle.command_io.specs.Words.{words_left, joined, text_in, words_of_text}
+use Rattle.spec_machine.specs.ListingWords.{in_front, parts, words}
+use Rattle.command_io.specs.Words.{words_left}
+use Rattle.spec_lines.specs.Words.{joined, text_in, words_of_text}
 
 abbrev is_space : ℕ → Bool
 is_space b = nat_eq b 32

@@ -1,12 +1,8 @@
 -- How the first LF splits the lines of an input.
 use Rattle.std.proofs.Common.{◌≡◌, ℕ, zero, suc, ◌+◌, ◌<◌, nat_eq, Bool, true, false, List, [], ◌∷◌, ◌++◌, length, take, drop, get_or, refl, ap, add-one, arith}
-use Rattle.std.proofs.lemmas.Bool.{eqb-true}
+use Rattle.std.proofs.lemmas.Bool.{eqb-true, false_from_ne_true as not_true}
 use Rattle.std.proofs.lemmas.List.{drop_all}
-use Rattle.command_io.specs.Lines.{lines, in_front}
-
-not_true : (b : Bool) → (b ≡ true → ⊥) → b ≡ false
-not_true true h = absurd (h refl)
-not_true false h = refl
+use Rattle.spec_lines.specs.Lines.{lines, in_front}
 
 lines_through : (xs : List ℕ) (k : ℕ) → k < length xs → ((j : ℕ) → j < k → nat_eq (get_or xs j 0) 10 ≡ true → ⊥)
     → nat_eq (get_or xs k 0) 10 ≡ true → lines xs ≡ take k xs ∷ lines (drop (suc k) xs)

@@ -1,8 +1,4 @@
-pub mod Answer
 pub mod Lines
-pub mod OutcomeLine
-pub mod Payload
-pub mod RunLine
 pub mod Traffic
 pub mod Request
 pub mod Words

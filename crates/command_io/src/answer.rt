@@ -1,7 +1,7 @@
 //! The line that answers a payload.
 
 ghost use Rattle.std.specs.Prelude.{◌≡◌, ◌++◌, ℕ, List, string_bytes, OnOk};
-ghost use Rattle.command_io.specs.Answer.{IsAnswer, IsPayloadAnswer};
+ghost use Rattle.spec_lines.specs.Answer.{IsAnswer, IsPayloadAnswer};
 
 use crate::outcome_line::push_outcome;
 use crate::payload::payload_of;

@@ -1,29 +1,13 @@
 //! What a line of `debug` asks for.
 
 ghost use Rattle.std.specs.Prelude.{◌≡◌};
-ghost use Rattle.command_io.specs.Reading.{debug_line, debug_line_of_kind};
+ghost use Rattle.spec_lines.specs.Reading.{debug_line, debug_line_of_kind};
 ghost use Rattle.command_io.specs.Words.{words_left};
 
-use crate::debug_kind::DebugKind;
+use crate::debug_kind::{DebugKind, debug_kind_named};
 use crate::numbers::{last_number, last_rows};
 use crate::words::{at_end, first_word};
-
-/// What a line of `debug` asks for.
-#[derive(Clone, Copy, Debug, PartialEq, Eq)]
-pub enum DebugLine {
-    /// Sets a breakpoint at an address.
-    Break(u32),
-    /// Clears the breakpoint at an address.
-    Clear(u32),
-    /// Takes at most this many rows, whatever breakpoints are set.
-    Step(u64),
-    /// Takes at most this many rows, of which the first alone may be at a breakpoint at which no content is begun.
-    Go(u64),
-    /// Asks for the state.
-    Show,
-    /// Asks for the listing of the program.
-    List,
-}
+pub use spec_lines::DebugLine;
 
 /// Returns the line of a kind, by the words that are left; `None` where they do not fit it.
 fn line_of_kind(kind: DebugKind, left: Option<&str>) -> Option<DebugLine>
@@ -40,11 +24,11 @@ fn line_of_kind(kind: DebugKind, left: Option<&str>) -> Option<DebugLine>
 }
 
 /// Returns what a line of `debug` asks for. `None` where it has none of the forms, or is no text.
-#[tactic(auto, unfolding(crate::specs::Reading::debug_line, crate::specs::Reading::debug_line_in))]
+#[tactic(auto, unfolding(spec_lines::specs::Reading::debug_line, spec_lines::specs::Reading::debug_line_in))]
 pub fn read_debug_line(line: &[u8]) -> Option<DebugLine>
     ensures { result ≡ debug_line line.now }
 {
     let (word, left) = first_word(line)?;
-    let kind = DebugKind::named(word)?;
+    let kind = debug_kind_named(word)?;
     line_of_kind(kind, left)
 }

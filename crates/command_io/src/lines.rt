@@ -1,7 +1,8 @@
 //! Where a line ends.
 
 ghost use Rattle.std.specs.Prelude.{◌≡◌, ◌<◌, [], ◌∷◌, drop, length, IfSome, MatchOption};
-ghost use Rattle.command_io.specs.Lines.{IsFirst, line_at, lines};
+ghost use Rattle.command_io.specs.Lines.{IsFirst};
+ghost use Rattle.spec_lines.specs.Lines.{line_at, lines};
 
 use memchr::memchr;
 

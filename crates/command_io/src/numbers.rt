@@ -1,7 +1,8 @@
 //! The numbers in a line.
 
 ghost use Rattle.std.specs.Prelude.{◌≡◌, ◌^◌, option_map};
-ghost use Rattle.command_io.specs.Words.{first_number, last_number, last_rows, number_and_rows, number_below, two_numbers, words_left};
+ghost use Rattle.spec_lines.specs.Words.{first_number, last_number, last_rows, number_and_rows, number_below, two_numbers};
+ghost use Rattle.command_io.specs.Words.{words_left};
 
 use crate::words::{next_word, only_word};
 use assembler::is_numeral;
@@ -29,7 +30,7 @@ fn rows_of(word: &str) -> Option<u64>
 }
 
 /// Returns the first number, and what is left after it; `None` where the first word is no number.
-#[tactic(auto, unfolding(crate::specs::Words::first_number))]
+#[tactic(auto, unfolding(spec_lines::specs::Words::first_number))]
 pub(crate) fn first_number(left: Option<&str>) -> Option<(u32, Option<&str>)>
     ensures { option_map (λ p. (p.0, words_left p.1)) result ≡ first_number (words_left left.entry) }
 {
@@ -39,7 +40,7 @@ pub(crate) fn first_number(left: Option<&str>) -> Option<(u32, Option<&str>)>
 }
 
 /// Returns the one number that is left; `None` where other words are left.
-#[tactic(auto, unfolding(crate::specs::Words::last_number))]
+#[tactic(auto, unfolding(spec_lines::specs::Words::last_number))]
 pub(crate) fn last_number(left: Option<&str>) -> Option<u32>
     ensures { result ≡ last_number (words_left left.entry) }
 {
@@ -48,7 +49,7 @@ pub(crate) fn last_number(left: Option<&str>) -> Option<u32>
 }
 
 /// Returns the two numbers that are left; `None` where other words are left.
-#[tactic(auto, unfolding(crate::specs::Words::two_numbers))]
+#[tactic(auto, unfolding(spec_lines::specs::Words::two_numbers))]
 pub(crate) fn pair(left: Option<&str>) -> Option<(u32, u32)>
     ensures { result ≡ two_numbers (words_left left.entry) }
 {
@@ -58,7 +59,7 @@ pub(crate) fn pair(left: Option<&str>) -> Option<(u32, u32)>
 }
 
 /// Returns the one number of rows that is left; `None` where other words are left.
-#[tactic(auto, unfolding(crate::specs::Words::last_rows))]
+#[tactic(auto, unfolding(spec_lines::specs::Words::last_rows))]
 pub(crate) fn last_rows(left: Option<&str>) -> Option<u64>
     ensures { result ≡ last_rows (words_left left.entry) }
 {
@@ -67,7 +68,7 @@ pub(crate) fn last_rows(left: Option<&str>) -> Option<u64>
 }
 
 /// Returns the number and the number of rows that are left; `None` where other words are left.
-#[tactic(auto, unfolding(crate::specs::Words::number_and_rows))]
+#[tactic(auto, unfolding(spec_lines::specs::Words::number_and_rows))]
 pub(crate) fn number_and_rows(left: Option<&str>) -> Option<(u32, u64)>
     ensures { result ≡ number_and_rows (words_left left.entry) }
 {

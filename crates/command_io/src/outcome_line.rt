@@ -2,9 +2,8 @@
 
 ghost use Rattle.std.specs.Prelude.{◌≡◌, ◌++◌, string_bytes, OnOk};
 ghost use Rattle.hex.specs.Hex.{encode_lower};
-ghost use Rattle.spec_avro.specs.Outcome.{Done};
-ghost use Rattle.avro_bytes.specs.Outcome.{outcome_of};
-ghost use Rattle.command_io.specs.OutcomeLine.{hex_of, line_of};
+ghost use Rattle.spec_avro.specs.Outcome.{Done, outcome_of};
+ghost use Rattle.spec_lines.specs.OutcomeLine.{hex_of, line_of};
 
 use avro_bytes::Outcome;
 use std::alloc::{AllocError, Global};

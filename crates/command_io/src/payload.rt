@@ -2,7 +2,7 @@
 
 ghost use Rattle.std.specs.Prelude.{◌≡◌, IfOk, option_map};
 ghost use Rattle.std.specs.List.{list_any};
-ghost use Rattle.command_io.specs.Payload.{is_upper, payload_of};
+ghost use Rattle.spec_lines.specs.Payload.{is_upper, payload_of};
 
 use hex::FromHexError;
 use std::alloc::{AllocError, Global};

@@ -2,11 +2,13 @@
 
 ghost use Rattle.std.specs.Prelude.{◌≡◌, IfErr, IfOk, Some, option_map};
 ghost use Rattle.command_io.specs.Request.{request_of};
-ghost use Rattle.command_io.specs.Reading.{WantsMemory, kind_in, line_in, on_session, replay_line, slice_in};
+ghost use Rattle.command_io.specs.Reading.{WantsMemory, kind_in};
+ghost use Rattle.spec_lines.specs.Reading.{line_in, on_session, replay_line, slice_in};
 ghost use Rattle.session_core.specs.Event.{act_of};
-ghost use Rattle.command_io.specs.Words.{words_left, words_of_text};
+ghost use Rattle.command_io.specs.Words.{words_left};
+ghost use Rattle.spec_lines.specs.Words.{words_of_text};
 
-use crate::kind::Kind;
+use crate::kind::{Kind, kind_named};
 use crate::numbers::{first_number, last_number, number_and_rows, pair};
 use crate::request::Request;
 use crate::texts::{level_line_of, piece_of, register_of};
@@ -25,7 +27,7 @@ pub(crate) fn on_session(session: u32, act: Act) -> Request
 }
 
 /// Returns the request for a slice, by a session, a worker and a number of rows; `None` where other words are left.
-#[tactic(auto, unfolding(crate::specs::Reading::slice_in))]
+#[tactic(auto, unfolding(spec_lines::specs::Reading::slice_in))]
 fn slice_of(left: Option<&str>) -> Option<Request>
     ensures { option_map request_of result ≡ slice_in (words_left left.entry) }
 {
@@ -85,7 +87,7 @@ fn request_of_kind(
 }
 
 /// Returns what a line of `replay` asks for. `None` where it has none of the forms, or is no text.
-#[tactic(auto, unfolding(crate::specs::Reading::replay_line, crate::specs::Reading::replay_line_in, crate::specs::Reading::kind_in))]
+#[tactic(auto, unfolding(spec_lines::specs::Reading::replay_line, spec_lines::specs::Reading::replay_line_in, crate::specs::Reading::kind_in))]
 pub fn read_replay_line(alloc: Global, line: &[u8]) -> Result<Option<Request>, AllocError>
     ensures line { IfOk result (λ found. option_map request_of found ≡ replay_line line.now) }
     ensures memory { IfErr result (λ e. WantsMemory (kind_in (words_of_text line.now)) (replay_line line.now)) }
@@ -93,7 +95,7 @@ pub fn read_replay_line(alloc: Global, line: &[u8]) -> Result<Option<Request>, A
     let Some((word, left)) = first_word(line) else {
         return Ok(None);
     };
-    let Some(kind) = Kind::named(word) else {
+    let Some(kind) = kind_named(word) else {
         return Ok(None);
     };
     request_of_kind(alloc, kind, left)

@@ -1,7 +1,7 @@
 //! The line of a run of a program.
 
 ghost use Rattle.std.specs.Prelude.{◌≡◌, ◌++◌, string_bytes, OnOk};
-ghost use Rattle.command_io.specs.RunLine.{line_of_run, name_of_trap, text_of_end};
+ghost use Rattle.spec_lines.specs.RunLine.{line_of_run, name_of_trap, text_of_end};
 
 use crate::outcome_line::{push_done, push_outcome};
 use avro_bytes::Outcome;

@@ -1,18 +1,21 @@
 //! The subjects, levels and schema texts in a line.
 
 ghost use Rattle.std.specs.Prelude.{◌≡◌, IfErr, IfOk, IsSome, Some, option_map, string_bytes};
-ghost use Rattle.command_io.specs.Request.{Happen, request_of};
-ghost use Rattle.command_io.specs.Reading.{HasSubject, level_in, no_level, piece_in, register_in, set_level};
-ghost use Rattle.session_core.specs.Event.{Register};
-ghost use Rattle.command_io.specs.Words.{last_bytes, subject_in, words_left};
-ghost use Rattle.schema_registry.specs.Level.{level_named};
+ghost use Rattle.spec_lines.specs.Request.{Happen};
+ghost use Rattle.command_io.specs.Request.{request_of};
+ghost use Rattle.command_io.specs.Reading.{HasSubject};
+ghost use Rattle.spec_lines.specs.Reading.{level_in, no_level, piece_in, register_in, set_level};
+ghost use Rattle.spec_sessions.specs.Event.{Register};
+ghost use Rattle.spec_lines.specs.Words.{last_bytes, subject_in};
+ghost use Rattle.command_io.specs.Words.{words_left};
+ghost use Rattle.spec_registry.specs.Level.{level_named};
 
 use crate::numbers::first_number;
 use crate::reading::on_session;
 use crate::request::Request;
 use crate::words::{only_word, two_words, word_and_text};
 use assembler::bytes_of;
-use schema_registry::{Level, Refusal, is_subject};
+use schema_registry::{Level, Refusal, is_subject, parse_level};
 use session_core::{Act, Event};
 use std::alloc::{AllocError, Global};
 
@@ -27,7 +30,7 @@ fn register(alloc: Global, subject: &str, text: &str) -> Result<Request, AllocEr
 
 /// Returns the request that registers a text, by a subject, and a schema's text, which is all after the next space;
 /// `None` where these are not left.
-#[tactic(auto, unfolding(crate::specs::Reading::register_in))]
+#[tactic(auto, unfolding(spec_lines::specs::Reading::register_in))]
 pub(crate) fn register_of(alloc: Global, left: Option<&str>) -> Result<Option<Request>, AllocError>
     ensures line { IfOk result (λ found. option_map request_of found ≡ register_in (words_left left.entry)) }
     ensures memory { IfErr result (λ e. HasSubject (register_in (words_left left.entry))) }
@@ -43,7 +46,7 @@ pub(crate) fn register_of(alloc: Global, left: Option<&str>) -> Result<Option<Re
 fn level_of(word: &str) -> Option<Level>
     ensures { result ≡ level_named word.now }
 {
-    Level::parse(word).ok()
+    parse_level(word).ok()
 }
 
 /// Returns the subject that a word names, which is `None` for `*`, the global level.
@@ -85,7 +88,7 @@ fn set_level(alloc: Global, subject: &str, level: &str) -> Result<Request, Alloc
 }
 
 /// Returns the request that sets a level, by a subject and the name of a level; `None` where other words are left.
-#[tactic(auto, unfolding(crate::specs::Reading::level_in))]
+#[tactic(auto, unfolding(spec_lines::specs::Reading::level_in))]
 pub(crate) fn level_line_of(
     alloc: Global,
     left: Option<&str>,
@@ -101,7 +104,7 @@ pub(crate) fn level_line_of(
 }
 
 /// Returns the bytes that the one word that is left spells; `None` where it spells none, or other words are left.
-#[tactic(auto, unfolding(crate::specs::Words::last_bytes))]
+#[tactic(auto, unfolding(spec_lines::specs::Words::last_bytes))]
 fn last_bytes(alloc: Global, left: Option<&str>) -> Result<Option<Vec<u8>>, AllocError>
     ensures { IfOk result (λ found. option_map (λ bytes. bytes.items) found ≡ last_bytes (words_left left.entry)) }
 {
@@ -113,7 +116,7 @@ fn last_bytes(alloc: Global, left: Option<&str>) -> Result<Option<Vec<u8>>, Allo
 
 /// Returns the request that adds a piece to a session, by its index and the piece's bytes; `None` where other words
 /// are left.
-#[tactic(auto, unfolding(crate::specs::Reading::piece_in))]
+#[tactic(auto, unfolding(spec_lines::specs::Reading::piece_in))]
 pub(crate) fn piece_of(alloc: Global, left: Option<&str>) -> Result<Option<Request>, AllocError>
     ensures { IfOk result (λ found. option_map request_of found ≡ piece_in (words_left left.entry)) }
 {

@@ -1,9 +1,10 @@
 //! The words of a line.
 
 ghost use Rattle.std.specs.Prelude.{◌≡◌, ◌∷◌, [], MatchOption, option_map};
-ghost use Rattle.assembler.specs.Things.{at_end};
-ghost use Rattle.assembler.specs.Words.{words};
-ghost use Rattle.command_io.specs.Words.{named, only_word, two_words, word_and_text, words_left, words_of_text};
+ghost use Rattle.spec_machine.specs.ListingParts.{at_end};
+ghost use Rattle.spec_machine.specs.ListingWords.{words};
+ghost use Rattle.spec_lines.specs.Words.{named, only_word, two_words, word_and_text, words_of_text};
+ghost use Rattle.command_io.specs.Words.{words_left};
 
 /// Returns the first word, and what follows the space after it; `None` where no space does.
 pub(crate) fn split_word(line: &str) -> (&str, Option<&str>)
@@ -48,7 +49,7 @@ pub(crate) fn at_end<T: Copy>(thing: T, left: Option<&str>) -> Option<T>
 }
 
 /// Returns the one word that is left; `None` where there is none, or more than one.
-#[tactic(auto, unfolding(crate::specs::Words::only_word))]
+#[tactic(auto, unfolding(spec_lines::specs::Words::only_word))]
 pub(crate) fn only_word(left: Option<&str>) -> Option<&str>
     ensures { option_map (λ w. w.now) result ≡ only_word (words_left left.entry) }
 {
@@ -64,7 +65,7 @@ fn named(word: &str) -> Option<&str>
 }
 
 /// Returns the two words that are left, neither of them empty; `None` where other words are left.
-#[tactic(auto, unfolding(crate::specs::Words::two_words))]
+#[tactic(auto, unfolding(spec_lines::specs::Words::two_words))]
 pub(crate) fn two_words(left: Option<&str>) -> Option<(&str, &str)>
     ensures { option_map (λ p. (p.0.now, p.1.now)) result ≡ two_words (words_left left.entry) }
 {
@@ -77,7 +78,7 @@ pub(crate) fn two_words(left: Option<&str>) -> Option<(&str, &str)>
 
 /// Returns the next word, which is not empty, and all after the space that follows it; `None` where these are not
 /// left.
-#[tactic(auto, unfolding(crate::specs::Words::word_and_text))]
+#[tactic(auto, unfolding(spec_lines::specs::Words::word_and_text))]
 pub(crate) fn word_and_text(left: Option<&str>) -> Option<(&str, &str)>
     ensures { option_map (λ p. (p.0.now, p.1.now)) result ≡ word_and_text (words_left left.entry) }
 {

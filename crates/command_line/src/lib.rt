@@ -5,12 +5,11 @@
 
 mod help;
 mod task;
-mod verb;
 
 use clap::{Arg, ArgAction, ArgMatches, Command, value_parser};
+pub use spec_lines::Verb;
 use std::alloc::{AllocError, Global};
 pub use task::{Explanation, ServeWords, Task};
-pub use verb::Verb;
 
 /// How many rows the run on a payload may take at most.
 const MOST_STEPS: i64 = 1_000_000_000;

@@ -1,6 +1,6 @@
 //! What the words of the command line ask for.
 
-use crate::verb::Verb;
+use spec_lines::Verb;
 use std::net::IpAddr;
 
 /// What the words of the command line ask for.

@@ -1,7 +1,7 @@
 -- Answers to lines, one after the other.
 use Rattle.std.proofs.Common.{◌≡◌, ℕ, List, [], ◌∷◌, ◌++◌, refl, sym, ap, ◌∙◌, append_assoc, append-nil, subst}
 use Rattle.spec_avro.specs.Node.{Node}
-use Rattle.command_io.specs.Answer.{AreAnswers, IsAnswer}
+use Rattle.spec_lines.specs.Answer.{AreAnswers, IsAnswer}
 
 -- what is an answer to a line
 module _ (Answers : List ℕ → List ℕ → Type 0) where

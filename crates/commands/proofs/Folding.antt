@@ -1,6 +1,7 @@
 -- Answers to lines, one after the other.
 use Rattle.std.proofs.Common.{◌≡◌, ℕ, List, [], ◌∷◌, ◌++◌, refl, sym, ap, ◌∙◌, append_assoc, append-nil}
-use Rattle.commands.specs.Folding.{AnswersAll, Grows}
+use Rattle.spec_lines.specs.Folding.{AnswersAll}
+use Rattle.commands.specs.Folding.{Grows}
 
 module _ {S : Type 0} (Answers : List ℕ → List ℕ → S → S → Type 0) where
   no-answers : (now : S) → AnswersAll Answers [] [] now now

@@ -3,29 +3,30 @@
 use Rattle.std.proofs.Common.{◌≡◌, ℕ, Bool, true, false, List, [], ◌∷◌, ◌++◌, length, Option, Some, None, Result, Ok, Err, MatchBool, MatchOption, MatchResult, nat_lt, drop, codes, refl, sym, ap, ◌∙◌}
 use Rattle.std.specs.List.{concat}
 use Rattle.spec_avro.specs.Node.{Node}
-use Rattle.assembler.specs.Assembling.{assembled}
-use Rattle.isa.specs.Program.{Program}
-use Rattle.program_definition.specs.Code.{code_of}
+use Rattle.spec_machine.specs.Assembling.{assembled}
+use Rattle.spec_machine.specs.Program.{Program}
+use Rattle.spec_machine.specs.Code.{code_of}
 use Rattle.spec_avro.specs.Outcome.{Outcome}
 use Rattle.spec_avro.specs.declared.limits.TheConstants.{MOST_PAYLOAD}
 use Rattle.spec_avro.specs.PayloadOutcome.{IsOutcome}
-use Rattle.program_correctness.specs.Alone.{EndsAreLast, RowsAreCounted, RunsGoOn}
-use Rattle.command_io.specs.OutcomeLine.{line_of}
-use Rattle.command_io.specs.RunLine.{line_of_run}
-use Rattle.command_io.specs.Answer.{AreAnswers, IsAnswer, IsAnswers, IsPayloadAnswer}
-use Rattle.command_io.specs.Lines.{lines}
-use Rattle.commands.specs.Listed.{listed}
-use Rattle.commands.specs.Output.{HasOneOutput, HasOutput, IsCompiled, IsForSchemas, IsRun, IsTranscoded, text_of_program}
-use Rattle.command_io.specs.Payload.{payload_of}
-use Rattle.commands.specs.Refusal.{IsRefused, text_of}
-use Rattle.commands.specs.Running.{IsRunAnswer, IsRunLine, StopsIn, pieces_of}
-use Rattle.commands.specs.Schemas.{schemas_of}
-use Rattle.command_line.specs.declared.verb.Verb.TheVariants.{Compile, Debug, Replay, Run, Transcode}
-use Rattle.commands.specs.declared.refusal.Refusal.{Refusal}
-use Rattle.commands.specs.declared.refusal.Refusal.TheVariants.{BadListing, ProgramTooLarge}
-use Rattle.commands.specs.declared.status.Status.{Status}
-use Rattle.commands.specs.declared.status.Status.TheVariants.{Answered, Refused}
-use Rattle.commands.proofs.Stopping.{RowOrEnd, one_stop, some_stop}
+use Rattle.spec_machine.specs.Alone.{EndsAreLast, RowsAreCounted, RunsGoOn}
+use Rattle.spec_lines.specs.OutcomeLine.{line_of}
+use Rattle.spec_lines.specs.RunLine.{line_of_run}
+use Rattle.spec_lines.specs.Answer.{AreAnswers, IsAnswer, IsAnswers, IsPayloadAnswer}
+use Rattle.spec_lines.specs.Lines.{lines}
+use Rattle.spec_lines.specs.Listed.{listed}
+use Rattle.spec_lines.specs.Output.{HasOneOutput, HasOutput, IsCompiled, IsForSchemas, IsRun, IsTranscoded, text_of_program}
+use Rattle.spec_lines.specs.Payload.{payload_of}
+use Rattle.spec_lines.specs.Refusal.{IsRefused, text_of}
+use Rattle.spec_lines.specs.Running.{IsRunAnswer, IsRunLine, StopsIn, pieces_of}
+use Rattle.spec_lines.specs.Schemas.{schemas_of}
+use Rattle.spec_lines.specs.declared.verb.Verb.TheVariants.{Compile, Debug, Replay, Run, Transcode}
+use Rattle.spec_lines.specs.declared.refusal.Refusal.{Refusal}
+use Rattle.spec_lines.specs.declared.refusal.Refusal.TheVariants.{BadListing, ProgramTooLarge}
+use Rattle.spec_lines.specs.declared.status.Status.{Status}
+use Rattle.spec_lines.specs.declared.status.Status.TheVariants.{Answered, Refused}
+use Rattle.commands.proofs.Stopping.{one_stop, some_stop}
+use Rattle.machine.specs.Laws.Plain.{RowOrEnd}
 
 abbrev SomeOutcome : Type 0
 SomeOutcome = (W R : List Node) (payload : List ℕ) → (o : Outcome) × IsOutcome W R payload o

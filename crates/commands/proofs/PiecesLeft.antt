@@ -4,16 +4,16 @@ use Rattle.std.specs.Prelude.{if◌then◌else◌, slice_get}
 use Rattle.std.specs.Result.{is_ok}
 use Rattle.std.specs.List.{concat}
 use Rattle.std.proofs.lemmas.Bool.{leb-false, leb-true, lt-leb, lt-ltb}
-use Rattle.isa.specs.Lists.{total_length}
+use Rattle.spec_machine.specs.Lengths.{total_length}
 use Rattle.spec_avro.specs.declared.limits.TheConstants.{MOST_PAYLOAD}
-use Rattle.assembler.specs.Things.{each_in}
-use Rattle.assembler.specs.Words.{parts}
+use Rattle.spec_machine.specs.ListingParts.{each_in}
+use Rattle.spec_machine.specs.ListingWords.{parts}
 use Rattle.assembler.proofs.Each.{with_front, word_fails, word_read, words_read}
-use Rattle.isa.specs.Program.{Program}
-use Rattle.isa.specs.State.{State}
-use Rattle.command_io.specs.Payload.{payload_of}
-use Rattle.command_io.specs.RunLine.{line_of_run}
-use Rattle.commands.specs.Running.{IsRunAnswer, StopsIn}
+use Rattle.spec_machine.specs.Program.{Program}
+use Rattle.spec_machine.specs.State.{State}
+use Rattle.spec_lines.specs.Payload.{payload_of}
+use Rattle.spec_lines.specs.RunLine.{line_of_run}
+use Rattle.spec_lines.specs.Running.{IsRunAnswer, StopsIn}
 
 -- ---- what is left of a line
 

@@ -3,19 +3,12 @@ use Rattle.std.proofs.Common.{◌≡◌, ◌≤◌, ◌<◌, ◌⊎◌, ◌+◌,
 use Rattle.std.specs.Prelude.{is_some}
 use Rattle.std.proofs.lemmas.Bool.{cases_lt}
 use Rattle.std.proofs.lemmas.Option.{same_Some}
-use Rattle.isa.specs.Program.{Program}
-use Rattle.isa.specs.Row.{row_of}
-use Rattle.isa.specs.State.{End, State, start}
-use Rattle.program_correctness.specs.Alone.{EndsAreLast, RowsAreCounted, RunsGoOn, rows_from, run_alone}
-use Rattle.commands.specs.Running.{StopsIn}
-
--- the law of rows, as `isa` proves it
-abbrev pub RowOrEnd : Type 0
-RowOrEnd = (P : Program) (input : List ℕ) (s : State) → s.end ≡ None → is_some (row_of P input true s) ≡ true
-
-not_none : {A : Type 0} (o : Option A) → o ≡ None → is_some o ≡ true → ⊥
-not_none None e t = cc
-not_none (Some x) e t = cc
+use Rattle.spec_machine.specs.Program.{Program}
+use Rattle.spec_machine.specs.Row.{row_of}
+use Rattle.spec_machine.specs.State.{End, State, start}
+use Rattle.spec_machine.specs.Alone.{EndsAreLast, RowsAreCounted, RunsGoOn, rows_from, run_alone}
+use Rattle.spec_lines.specs.Running.{StopsIn}
+use Rattle.machine.specs.Laws.Plain.{RowOrEnd, not_none}
 
 one_row : (P : Program) (input : List ℕ) (last new : State) → row_of P input true last ≡ Some new → rows_from P input true 1 last ≡ Some new
 unfolding rows_from

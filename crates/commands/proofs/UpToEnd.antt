@@ -2,8 +2,9 @@
 use Rattle.std.proofs.Common.{◌≡◌, ◌-◌, ℕ, true, false, List, [], ◌∷◌, ◌++◌, length, take, Option, Some, None, option_map, codes, refl, sym, ap, ◌∙◌, arith, append_assoc, append-nil, inl, inr, length-append}
 use Rattle.std.specs.Str.{bytes_eq}
 use Rattle.std.proofs.Math.Seq.{take-append_seam}
-use Rattle.command_io.specs.Lines.{IsFirst, lines}
-use Rattle.commands.specs.Listed.{cut_at_end, listed}
+use Rattle.command_io.specs.Lines.{IsFirst}
+use Rattle.spec_lines.specs.Lines.{lines}
+use Rattle.spec_lines.specs.Listed.{cut_at_end, listed}
 use Rattle.command_io.proofs.Split.{lines_none}
 
 abbrev Cut : Type 0

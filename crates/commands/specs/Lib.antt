@@ -1,13 +1,3 @@
-pub mod Listed
-pub mod Names
-pub mod Output
-pub mod Refusal
-pub mod Running
-pub mod Schemas
-pub mod Status
 pub mod Traffic
-pub mod Debugging
 pub mod Folding
-pub mod Replaying
-pub mod Telling
 pub mod Questions

@@ -1,6 +1,6 @@
 -- The questions of an input. The lines are this project's own.
 use Rattle.std.specs.Prelude.{ℕ, List}
-use Rattle.command_io.specs.Lines.{line_at, lines}
+use Rattle.spec_lines.specs.Lines.{line_at, lines}
 use Rattle.schema_report.specs.Reports.{AnswersCheck, AnswersNodes}
 use Rattle.schema_report.specs.declared.report.Verdict.{Verdict}
 use Rattle.commands.specs.declared.questions.Question.{Question}

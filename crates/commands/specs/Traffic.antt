@@ -2,9 +2,9 @@
 use Rattle.std.specs.Prelude.{ℕ, List, Option, IfSome}
 use Rattle.std.specs.Io.KnownBytes.{Appends}
 use Rattle.command_io.specs.Traffic.{Begins}
-use Rattle.commands.specs.Output.{IsOutput}
-use Rattle.commands.specs.declared.status.Status.{Status}
-use Rattle.command_line.specs.declared.verb.Verb.{Verb}
+use Rattle.spec_lines.specs.Output.{IsOutput}
+use Rattle.spec_lines.specs.declared.status.Status.{Status}
+use Rattle.spec_lines.specs.declared.verb.Verb.{Verb}
 
 -- where the input was known, the writer's contents grew by an output for it that has this status
 abbrev pub Answers : Verb → Option (List ℕ) → Option (List ℕ) → Option (List ℕ) → Status → Type 0

@@ -2,21 +2,21 @@
 
 ghost use Rattle.std.specs.Prelude.{◌≡◌, ◌≢◌, ◌++◌, ◌∷◌, [], IfErr, IfOk, string_bytes};
 ghost use Rattle.std.specs.Io.KnownBytes.{Keeps};
-ghost use Rattle.commands.specs.Output.{IsOutput};
-ghost use Rattle.commands.specs.Refusal.{text_of};
+ghost use Rattle.spec_lines.specs.Output.{IsOutput};
+ghost use Rattle.spec_lines.specs.Refusal.{text_of};
 ghost use Rattle.commands.specs.Traffic.{Answers, BeginsToAnswer};
-ghost use Rattle.commands.specs.declared.status.Status.TheVariants.{Answered, Refused};
+ghost use Rattle.spec_lines.specs.declared.status.Status.TheVariants.{Answered, Refused};
 
 use crate::compile::compile;
 use crate::debugging::debug;
-use crate::refusal::Refusal;
+use crate::refusal::{Refusal, refusal_line};
 use crate::replay;
 use crate::running::run_listed;
 use crate::schemas::schemas_of;
-use crate::status::Status;
 use crate::transcode::transcode;
 use command_io::{RunError, read_all, write_whole};
 use command_line::Verb;
+use spec_lines::Status;
 use std::alloc::{AllocError, Global};
 use std::io::{Read, Write};
 
@@ -53,7 +53,7 @@ fn output_of(alloc: Global, verb: &Verb, input: &[u8]) -> Result<(String, Status
 {
     match answered(alloc, verb, input) {
         Ok(output) => Ok((output, Status::Answered)),
-        Err(refusal) => Ok((refusal.line(alloc)?, Status::Refused)),
+        Err(refusal) => Ok((refusal_line(refusal, alloc)?, Status::Refused)),
     }
 }
 

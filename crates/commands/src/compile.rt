@@ -2,10 +2,10 @@
 
 ghost use Rattle.std.specs.Prelude.{◌≡◌, ◌++◌, ◌⊎◌, ◌∷◌, [], string_bytes, IfOk, IfErr, Some, None};
 ghost use Rattle.hex.specs.Hex.{encode_lower};
-ghost use Rattle.avro_loader.specs.Image.{image_of};
-ghost use Rattle.isa.specs.Program.{Program};
-ghost use Rattle.program_definition.specs.Code.{code_of};
-ghost use Rattle.commands.specs.Output.{text_of_program};
+ghost use Rattle.spec_machine.specs.Image.{image_of};
+ghost use Rattle.spec_machine.specs.Program.{Program};
+ghost use Rattle.spec_machine.specs.Code.{code_of};
+ghost use Rattle.spec_lines.specs.Output.{text_of_program};
 
 use crate::refusal::Refusal;
 use assembler::disassemble;

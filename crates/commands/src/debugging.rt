@@ -1,10 +1,10 @@
 //! Answering `debug`, from the payload's line on.
 
 ghost use Rattle.std.specs.Prelude.{◌≢◌, ◌++◌, ◌∷◌, [], string_bytes, IfErr, IfOk};
-ghost use Rattle.command_io.specs.Lines.{lines};
-ghost use Rattle.commands.specs.Output.{IsDebug};
-ghost use Rattle.commands.specs.Refusal.{text_of};
-ghost use Rattle.commands.specs.declared.status.Status.TheVariants.{Answered, Refused};
+ghost use Rattle.spec_lines.specs.Lines.{lines};
+ghost use Rattle.spec_lines.specs.Output.{IsDebug};
+ghost use Rattle.spec_lines.specs.Refusal.{text_of};
+ghost use Rattle.spec_lines.specs.declared.status.Status.TheVariants.{Answered, Refused};
 
 use crate::DebugError;
 use crate::refusal::Refusal;

@@ -1,7 +1,7 @@
 //! The law that an input has one output. It does nothing when it runs.
 
-ghost use Rattle.commands.specs.Output.{HasOneOutput, HasOutput};
-ghost use Rattle.commands.specs.Running.{StopInOneState};
+ghost use Rattle.spec_lines.specs.Output.{HasOneOutput, HasOutput};
+ghost use Rattle.spec_lines.specs.Running.{StopInOneState};
 
 /// The law that a run stops in just one state, and that for each input of `transcode`, `compile` and `run` there is
 /// just one output, with one status.

@@ -15,7 +15,6 @@ mod replaying;
 mod running;
 mod schemas;
 mod session_debugging;
-mod status;
 mod telling;
 mod transcode;
 
@@ -27,4 +26,4 @@ pub use questions::{Question, answer};
 pub use replaying::replay;
 pub use schema_report::{Form, Level, Verdict};
 pub use session_debugging::{DebugError, debug};
-pub use status::Status;
+pub use spec_lines::Status;

@@ -2,8 +2,8 @@
 
 ghost use Rattle.std.specs.Prelude.{◌≡◌, codes};
 ghost use Rattle.std.specs.Str.{bytes_eq};
-ghost use Rattle.command_io.specs.Lines.{lines};
-ghost use Rattle.commands.specs.Listed.{listed};
+ghost use Rattle.spec_lines.specs.Lines.{lines};
+ghost use Rattle.spec_lines.specs.Listed.{listed};
 
 use command_io::split_line;
 

@@ -1,8 +1,8 @@
 //! The pieces of a payload that a line spells.
 
 ghost use Rattle.std.specs.Prelude.{◌≡◌, ◌<◌, ◌∷◌, [], IfOk, MatchOption, length};
-ghost use Rattle.assembler.specs.Words.{parts};
-ghost use Rattle.commands.specs.Running.{pieces_of};
+ghost use Rattle.spec_machine.specs.ListingWords.{parts};
+ghost use Rattle.spec_lines.specs.Running.{pieces_of};
 
 use command_io::payload_of;
 use isa::Lists;

@@ -1,50 +1,13 @@
-//! Why a whole input is not answered.
+//! The line of a refusal of a whole input.
 
 ghost use Rattle.std.specs.Prelude.{◌≡◌, ◌≢◌, ◌++◌, ◌∷◌, [], string_bytes, IfOk};
-ghost use Rattle.commands.specs.Names.{name_of_fault};
-ghost use Rattle.commands.specs.Refusal.{text_of};
+ghost use Rattle.spec_lines.specs.ListingFaults.{name_of_fault};
+ghost use Rattle.spec_lines.specs.Refusal.{text_of};
 
 use assembler::{AsmErrorKind, AsmFault};
 use avro_schema::SchemaError;
-use std::alloc::{AllocError, AllocFailed, Global};
-use thiserror::Error;
-
-/// Why an input is not answered.
-#[derive(Clone, Copy, Debug, PartialEq, Eq, Error)]
-pub(crate) enum Refusal {
-    #[error("the schema in line {line} is bad: {error}")]
-    BadSchema { line: u8, error: SchemaError },
-    #[error("the listing is bad: {0}")]
-    BadListing(AsmFault),
-    #[error("the program of the schemas passes a limit")]
-    ProgramTooLarge,
-    #[error("the payload is no lower-case hexadecimal in pairs")]
-    BadHex,
-    #[error("the payload passes its limit")]
-    TooLarge,
-    #[error("out of memory")]
-    NoMemory,
-}
-
-impl From<AllocError> for Refusal {
-    ghost use Rattle.commands.specs.declared.refusal.Refusal.TheVariants.{NoMemory};
-
-    ghost from_gives = { λ _ e. e ≡ NoMemory };
-
-    fn from(_error: AllocError) -> Refusal {
-        Refusal::NoMemory
-    }
-}
-
-impl<T: Drop> From<AllocFailed<T>> for Refusal {
-    ghost use Rattle.commands.specs.declared.refusal.Refusal.TheVariants.{NoMemory};
-
-    ghost from_gives = { λ _ e. e ≡ NoMemory };
-
-    fn from(_error: AllocFailed<T>) -> Refusal {
-        Refusal::NoMemory
-    }
-}
+pub use spec_lines::Refusal;
+use std::alloc::{AllocError, Global};
 
 /// Returns the line that reports a bad schema.
 fn bad_schema(alloc: Global, line: u8, error: SchemaError) -> Result<String, AllocError>
@@ -79,31 +42,29 @@ fn bad_listing(alloc: Global, fault: AsmFault) -> Result<String, AllocError>
     Ok(text)
 }
 
-impl Refusal {
-    /// Returns the refusal of the schema in a line. Memory that ran out is no fault of a schema.
-    pub(crate) fn of_schema(line: u8, error: SchemaError) -> Refusal
-        ensures memory { error ≡ SchemaError.NoMemory → result ≡ Refusal.NoMemory }
-        ensures bad { error ≢ SchemaError.NoMemory → result ≡ Refusal.BadSchema line error }
-    {
-        if error == SchemaError::NoMemory {
-            Refusal::NoMemory
-        } else {
-            Refusal::BadSchema { line, error }
-        }
+/// Returns the refusal of the schema in a line. Memory that ran out is no fault of a schema.
+pub(crate) fn refusal_of_schema(line: u8, error: SchemaError) -> Refusal
+    ensures memory { error ≡ SchemaError.NoMemory → result ≡ Refusal.NoMemory }
+    ensures bad { error ≢ SchemaError.NoMemory → result ≡ Refusal.BadSchema line error }
+{
+    if error == SchemaError::NoMemory {
+        Refusal::NoMemory
+    } else {
+        Refusal::BadSchema { line, error }
     }
+}
 
-    /// Returns its line. The error is that memory ran out, also where that is the refusal itself.
-    pub(crate) fn line(self, alloc: Global) -> Result<String, AllocError>
-        ensures memory { IfOk result (λ _. self ≢ Refusal.NoMemory) }
-        ensures text { IfOk result (λ line. string_bytes line ≡ text_of self ++ 10 ∷ []) }
-    {
-        match self {
-            Refusal::BadSchema { line, error } => bad_schema(alloc, line, error),
-            Refusal::BadListing(fault) => bad_listing(alloc, fault),
-            Refusal::ProgramTooLarge => format!(in alloc; "program too large\n"),
-            Refusal::BadHex => format!(in alloc; "bad hex\n"),
-            Refusal::TooLarge => format!(in alloc; "too large\n"),
-            Refusal::NoMemory => Err(AllocError),
-        }
+/// Returns its line. The error is that memory ran out, also where that is the refusal itself.
+pub(crate) fn refusal_line(refusal: Refusal, alloc: Global) -> Result<String, AllocError>
+    ensures memory { IfOk result (λ _. refusal ≢ Refusal.NoMemory) }
+    ensures text { IfOk result (λ line. string_bytes line ≡ text_of refusal ++ 10 ∷ []) }
+{
+    match refusal {
+        Refusal::BadSchema { line, error } => bad_schema(alloc, line, error),
+        Refusal::BadListing(fault) => bad_listing(alloc, fault),
+        Refusal::ProgramTooLarge => format!(in alloc; "program too large\n"),
+        Refusal::BadHex => format!(in alloc; "bad hex\n"),
+        Refusal::TooLarge => format!(in alloc; "too large\n"),
+        Refusal::NoMemory => Err(AllocError),
     }
 }

@@ -1,9 +1,9 @@
 //! Answering the lines of `replay`.
 
 ghost use Rattle.std.specs.Prelude.{◌≡◌, ◌++◌, string_bytes, IfOk, OnOk};
-ghost use Rattle.command_io.specs.Lines.{lines};
+ghost use Rattle.spec_lines.specs.Lines.{lines};
 ghost use Rattle.commands.specs.Folding.{Grows};
-ghost use Rattle.commands.specs.Replaying.{AnswersLine, AnswersRequest, IsReplayed, reply_line};
+ghost use Rattle.spec_lines.specs.Replaying.{AnswersLine, AnswersRequest, IsReplayed, reply_line};
 ghost use Rattle.command_io.specs.Request.{request_of};
 
 use crate::telling::{push_code, push_end, push_refusal, push_state};

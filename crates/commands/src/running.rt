@@ -2,14 +2,14 @@
 
 ghost use Rattle.std.specs.Prelude.{◌≡◌, ◌≤◌, ◌<◌, ◌++◌, ◌⊎◌, ℕ, List, string_bytes, true, is_some, IfErr, IfOk, OnOk, Err, Ok};
 ghost use Rattle.std.specs.List.{concat};
-ghost use Rattle.assembler.specs.Assembling.{assembled};
-ghost use Rattle.assembler.specs.declared.fault.AsmFault.{AsmFault};
-ghost use Rattle.isa.specs.Program.{Program as Parted};
+ghost use Rattle.spec_machine.specs.Assembling.{assembled};
+ghost use Rattle.spec_machine.specs.declared.listing_fault.AsmFault.{AsmFault};
+ghost use Rattle.spec_machine.specs.Program.{Program as Parted};
 ghost use Rattle.spec_avro.specs.declared.limits.TheConstants.{MOST_PAYLOAD};
-ghost use Rattle.command_io.specs.Lines.{lines};
-ghost use Rattle.command_io.specs.Answer.{AreAnswers};
-ghost use Rattle.commands.specs.Listed.{listed};
-ghost use Rattle.commands.specs.Running.{IsRunAnswer, IsRunLine, StopsIn};
+ghost use Rattle.spec_lines.specs.Lines.{lines};
+ghost use Rattle.spec_lines.specs.Answer.{AreAnswers};
+ghost use Rattle.spec_lines.specs.Listed.{listed};
+ghost use Rattle.spec_lines.specs.Running.{IsRunAnswer, IsRunLine, StopsIn};
 
 use crate::listed::split_listing;
 use crate::pieces::pieces_of;

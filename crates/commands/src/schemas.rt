@@ -1,11 +1,11 @@
 //! The two schemas at the front of an input.
 
 ghost use Rattle.std.specs.Prelude.{◌≡◌, ◌≢◌, Err, Ok, IfOk, IfErr, drop};
-ghost use Rattle.avro_schema_names.specs.declared.error.SchemaError.TheVariants.{NoMemory};
-ghost use Rattle.command_io.specs.Lines.{lines};
-ghost use Rattle.commands.specs.Schemas.{schema_of_line, schemas_of};
+ghost use Rattle.spec_schema.specs.declared.schema_error.SchemaError.TheVariants.{NoMemory};
+ghost use Rattle.spec_lines.specs.Lines.{lines};
+ghost use Rattle.spec_lines.specs.Schemas.{schema_of_line, schemas_of};
 
-use crate::refusal::Refusal;
+use crate::refusal::{Refusal, refusal_of_schema};
 use avro_schema::{Schema, SchemaError};
 use command_io::split_line_or_empty;
 use std::alloc::Global;
@@ -39,11 +39,11 @@ pub(crate) fn schemas_of<'a>(alloc: Global, input: &'a [u8]) -> Result<Schemas<'
     let (reader_line, later) = split_line_or_empty(rest);
     let writer = match schema_of_line(alloc, writer_line) {
         Ok(schema) => schema,
-        Err(error) => return Err(Refusal::of_schema(1, error)),
+        Err(error) => return Err(refusal_of_schema(1, error)),
     };
     let reader = match schema_of_line(alloc, reader_line) {
         Ok(schema) => schema,
-        Err(error) => return Err(Refusal::of_schema(2, error)),
+        Err(error) => return Err(refusal_of_schema(2, error)),
     };
     Ok(Schemas {
         writer,

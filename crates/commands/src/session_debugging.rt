@@ -1,9 +1,9 @@
 //! Answering the lines of `debug`.
 
-ghost use Rattle.std.specs.Prelude.{◌≡◌, ◌≢◌, ◌++◌, ℕ, List, drop, string_bytes, Err, Ok, IfErr, IfOk, OnOk};
-ghost use Rattle.command_io.specs.Lines.{line_at, lines};
-ghost use Rattle.isa.specs.Program.{Program as Parted};
-ghost use Rattle.commands.specs.Debugging.{AnswersCommand, IsDebugged, Obeys, debugged, given, within_limit};
+ghost use Rattle.std.specs.Prelude.{◌≡◌, ◌≢◌, ℕ, List, drop, string_bytes, Err, Ok, IfErr, IfOk, OnOk};
+ghost use Rattle.spec_lines.specs.Lines.{line_at, lines};
+ghost use Rattle.spec_machine.specs.Program.{Program as Parted};
+ghost use Rattle.spec_lines.specs.Debugging.{AnswersCommand, IsDebugged, Obeys, debugged, given, within_limit};
 ghost use Rattle.commands.specs.Folding.{Grows};
 
 use crate::telling::{push_code, push_refusal, push_state};
@@ -12,31 +12,8 @@ use command_io::{DebugLine, payload_of, read_debug_line, split_line, split_line_
 use machine::PlannedProgram;
 use program_compiler::{CompileError, compile};
 use session_core::{PieceRefusal, Session};
+pub use spec_lines::DebugError;
 use std::alloc::{AllocError, Global};
-use thiserror::Error;
-
-/// Why there is nothing to debug.
-#[derive(Clone, Copy, Debug, PartialEq, Eq, Error)]
-pub enum DebugError {
-    #[error("the program of the schemas passes a limit")]
-    ProgramTooLarge,
-    #[error("the payload is no lower-case hexadecimal in pairs")]
-    BadHex,
-    #[error("the payload passes its limit")]
-    TooLarge,
-    #[error("out of memory")]
-    NoMemory,
-}
-
-impl From<AllocError> for DebugError {
-    ghost use Rattle.commands.specs.declared.session_debugging.DebugError.TheVariants.{NoMemory};
-
-    ghost from_gives = { λ _ e. e ≡ NoMemory };
-
-    fn from(_error: AllocError) -> DebugError {
-        DebugError::NoMemory
-    }
-}
 
 /// Sets a breakpoint, and appends why it was not set, where it was refused.
 fn push_set(session: &mut Session, address: u32, output: &mut String) -> Result<(), AllocError>

@@ -2,8 +2,8 @@
 
 ghost use Rattle.std.specs.Prelude.{◌≡◌, ◌++◌, string_bytes, OnOk};
 ghost use Rattle.commands.specs.Folding.{Grows};
-ghost use Rattle.commands.specs.Telling.{Tells, TellsEnd, end_line, refused_line};
-ghost use Rattle.debugger.specs.Sessions.{Lists, Shows};
+ghost use Rattle.spec_lines.specs.Telling.{Tells, TellsEnd, end_line, refused_line};
+ghost use Rattle.spec_lines.specs.ShownSessions.{Lists, Shows};
 
 use command_io::push_run;
 use debugger::{list, show};

@@ -1,10 +1,10 @@
 //! Answering `transcode`.
 
 ghost use Rattle.std.specs.Prelude.{◌≡◌, ◌⊎◌, string_bytes, IfErr, IfOk, Some, None};
-ghost use Rattle.isa.specs.Program.{Program};
-ghost use Rattle.program_definition.specs.Code.{code_of};
-ghost use Rattle.command_io.specs.Answer.{IsAnswers};
-ghost use Rattle.command_io.specs.Lines.{lines};
+ghost use Rattle.spec_machine.specs.Program.{Program};
+ghost use Rattle.spec_machine.specs.Code.{code_of};
+ghost use Rattle.spec_lines.specs.Answer.{IsAnswers};
+ghost use Rattle.spec_lines.specs.Lines.{lines};
 
 use crate::refusal::Refusal;
 use avro_types::Nodes;

@@ -3,11 +3,11 @@ use Rattle.std.proofs.Common.{◌≡◌, ℕ, zero, suc, ◌+◌, List, [], ◌�
 use Rattle.std.specs.Prelude.{codes, option_map, option_to_list}
 use Rattle.std.specs.List.{flat_map}
 use Rattle.std.proofs.lemmas.List.{append-nil}
-use Rattle.isa.specs.State.{Blocks, Frame, Rec, Skip, SkipBlocks}
+use Rattle.spec_machine.specs.State.{Blocks, Frame, Rec, Skip, SkipBlocks}
 use Rattle.machine_store.specs.declared.views.FrameView.TheVariants as views
 use Rattle.machine_store.specs.Viewing.{slots_in, view_of}
-use Rattle.debugger.specs.Show.{frame_line}
-use Rattle.debugger.specs.Words.{bytes, number_or_none}
+use Rattle.spec_lines.specs.Show.{frame_line}
+use Rattle.spec_lines.specs.ShownWords.{bytes, number_or_none}
 
 abbrev line_of : Option Frame → List ℕ
 line_of o = flat_map frame_line (option_to_list o)

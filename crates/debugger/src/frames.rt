@@ -2,10 +2,10 @@
 
 ghost use Rattle.std.specs.Prelude.{◌≡◌, ◌++◌, length, option_map, option_to_list, reverse, slice_get, string_bytes, OnOk, Some};
 ghost use Rattle.std.specs.List.{flat_map};
-ghost use Rattle.isa.specs.State.{SkipBlocks};
+ghost use Rattle.spec_machine.specs.State.{SkipBlocks};
 ghost use Rattle.machine_store.specs.Viewing.{slots_in, view_of};
-ghost use Rattle.debugger.specs.Show.{call_line, frame_line};
-ghost use Rattle.debugger.specs.Words.{bytes};
+ghost use Rattle.spec_lines.specs.Show.{call_line, frame_line};
+ghost use Rattle.spec_lines.specs.ShownWords.{bytes};
 
 use crate::words::{push_buffer, push_number, push_walk};
 use avro_bytes::BlockWalk;

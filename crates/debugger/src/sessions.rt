@@ -1,7 +1,7 @@
 //! The text that shows a session, and the listing of its program.
 
 ghost use Rattle.std.specs.Prelude.{string_bytes, IfOk};
-ghost use Rattle.debugger.specs.Sessions.{Lists, Shows};
+ghost use Rattle.spec_lines.specs.ShownSessions.{Lists, Shows};
 
 use crate::showing::{list_program, show_machine};
 use session_core::Session;

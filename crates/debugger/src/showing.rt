@@ -1,8 +1,8 @@
 //! The text that shows a state, and the listing of its program.
 
 ghost use Rattle.std.specs.Prelude.{◌≡◌, ◌++◌, string_bytes, IfOk, OnOk};
-ghost use Rattle.assembler.specs.Listing.{listing_of};
-ghost use Rattle.debugger.specs.Show.{first_line, name_of_state, out_line, places, shown, told};
+ghost use Rattle.spec_machine.specs.Listing.{listing_of};
+ghost use Rattle.spec_lines.specs.Show.{first_line, name_of_state, out_line, places, shown, told};
 
 use crate::frames::{push_calls, push_frames};
 use crate::words::{push_buffer, push_mark, push_moving, push_truth};

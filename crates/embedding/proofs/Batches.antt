@@ -7,14 +7,14 @@ use Rattle.std.proofs.Math.Seq.{drop_at}
 use borrow.Rule.Slice.PartMut.{put_mid}
 use Rattle.embedding.specs.declared.batch.BatchItem.{BatchItem}
 use Rattle.embedding.specs.declared.numbers.ReportNumbers.{ReportNumbers}
-use Rattle.embedding.specs.declared.report.PayloadReport.{PayloadReport}
-use Rattle.embedding.specs.declared.report.PayloadReport.TheVariants as payloads
-use Rattle.embedding.specs.declared.report.Report.{Report}
-use Rattle.embedding.specs.declared.report.Report.TheVariants as reports
+use Rattle.spec_library.specs.declared.report.PayloadReport.{PayloadReport}
+use Rattle.spec_library.specs.declared.report.PayloadReport.TheVariants as payloads
+use Rattle.spec_library.specs.declared.report.Report.{Report}
+use Rattle.spec_library.specs.declared.report.Report.TheVariants as reports
 use Rattle.embedding.specs.Batch.{IsBatch, IsItem, ReportsItem, length_told, output_length, payload_of}
 use Rattle.embedding.specs.Numbers.{numbers_of, payload_numbers}
-use Rattle.embedding.specs.Pair.{Pair}
-use Rattle.embedding.specs.Report.{IsOutput, IsPayloadReport}
+use Rattle.spec_library.specs.Pair.{Pair}
+use Rattle.spec_library.specs.Report.{IsOutput, IsPayloadReport}
 
 -- the part of a room from an offset on, after a call has written to it
 written_part : (at : ℕ) (room part : List ℕ) → at ≤ length room

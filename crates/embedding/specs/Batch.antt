@@ -3,12 +3,12 @@
 use Rattle.std.specs.Prelude.{◌≡◌, ◌≤◌, ◌<◌, ◌+◌, ◌==◌, ℕ, List, [], ◌∷◌, length, take, drop, Option, Some, None, if◌then◌else◌}
 use Rattle.embedding.specs.declared.batch.BatchItem.{BatchItem}
 use Rattle.embedding.specs.declared.numbers.ReportNumbers.{ReportNumbers}
-use Rattle.embedding.specs.declared.report.Report.{Report}
-use Rattle.embedding.specs.declared.report.Report.TheVariants as reports
+use Rattle.spec_library.specs.declared.report.Report.{Report}
+use Rattle.spec_library.specs.declared.report.Report.TheVariants as reports
 use Rattle.embedding.specs.declared.status.Status.TheVariants as statuses
 use Rattle.embedding.specs.Numbers.{numbers_of}
-use Rattle.embedding.specs.Pair.{Pair}
-use Rattle.embedding.specs.Report.{IsPayloadReport}
+use Rattle.spec_library.specs.Pair.{Pair}
+use Rattle.spec_library.specs.Report.{IsPayloadReport}
 use Rattle.embedding.specs.Status.{code_of}
 
 -- what a caller asks of an item: where its payload lies

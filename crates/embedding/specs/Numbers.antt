@@ -3,13 +3,13 @@ use Rattle.std.specs.Prelude.{ℕ}
 use Rattle.spec_avro.specs.declared.malformed.MalformedKind.{MalformedKind}
 use Rattle.spec_avro.specs.declared.malformed.MalformedKind.TheVariants as malformed
 use Rattle.spec_avro.specs.MismatchKind as mismatch
-use Rattle.wire_frames.specs.declared.envelope.EnvelopeError.{EnvelopeError}
-use Rattle.wire_frames.specs.declared.envelope.EnvelopeError.TheVariants as envelopes
+use Rattle.spec_registry.specs.declared.envelope.EnvelopeError.{EnvelopeError}
+use Rattle.spec_registry.specs.declared.envelope.EnvelopeError.TheVariants as envelopes
 use Rattle.embedding.specs.declared.numbers.ReportNumbers.{ReportNumbers}
-use Rattle.embedding.specs.declared.report.PayloadReport.{PayloadReport}
-use Rattle.embedding.specs.declared.report.PayloadReport.TheVariants as payloads
-use Rattle.embedding.specs.declared.report.Report.{Report}
-use Rattle.embedding.specs.declared.report.Report.TheVariants as reports
+use Rattle.spec_library.specs.declared.report.PayloadReport.{PayloadReport}
+use Rattle.spec_library.specs.declared.report.PayloadReport.TheVariants as payloads
+use Rattle.spec_library.specs.declared.report.Report.{Report}
+use Rattle.spec_library.specs.declared.report.Report.TheVariants as reports
 use Rattle.embedding.specs.declared.status.Status.{Status}
 use Rattle.embedding.specs.declared.status.Status.TheVariants as statuses
 use Rattle.embedding.specs.Status.{code_of}

@@ -2,11 +2,11 @@
 -- of this is this project's own.
 use Rattle.std.specs.Prelude.{◌≡◌, ◌≢◌, ◌↔◌, ℕ, List, Bool, true, false, IsTrue, Option, Some, None, Result, Ok, Err}
 use Rattle.std.specs.Str.{IsUtf8}
-use Rattle.avro_schema.specs.Schema.{Declaration, schema_of}
-use Rattle.avro_schema_names.specs.declared.error.SchemaError.{SchemaError}
-use Rattle.avro_schema_names.specs.declared.error.SchemaError.TheVariants as schema
+use Rattle.spec_schema.specs.Schema.{Declaration, schema_of}
+use Rattle.spec_schema.specs.declared.schema_error.SchemaError.{SchemaError}
+use Rattle.spec_schema.specs.declared.schema_error.SchemaError.TheVariants as schema
 use Rattle.spec_avro.specs.Node.{Node}
-use Rattle.program_definition.specs.Code.{code_of as program_of}
+use Rattle.spec_machine.specs.Code.{code_of as program_of}
 use Rattle.spec_avro.specs.Safety.{IsSafe}
 use Rattle.embedding.specs.declared.opening.OpenError.{OpenError}
 use Rattle.embedding.specs.declared.opening.OpenError.TheVariants as errors
@@ -14,7 +14,7 @@ use Rattle.embedding.specs.declared.opening.TextFault.{TextFault}
 use Rattle.embedding.specs.declared.opening.TextFault.TheVariants as faults
 use Rattle.embedding.specs.declared.status.Status.{Status}
 use Rattle.embedding.specs.declared.status.Status.TheVariants as statuses
-use Rattle.embedding.specs.Pair.{Pair}
+use Rattle.spec_library.specs.Pair.{Pair}
 use Rattle.embedding.specs.Status.{code_of}
 
 -- the numbers of the faults of texts

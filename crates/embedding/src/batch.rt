@@ -3,9 +3,9 @@
 ghost use Rattle.std.specs.Prelude.{◌≡◌, ◌≤◌, ◌<◌, ◌+◌, MatchOption, length, map, take};
 ghost use Rattle.embedding.specs.Batch.{IsBatch, IsItem, output_length, payload_of, range_of};
 
-use crate::numbers::ReportNumbers;
+use crate::numbers::{ReportNumbers, numbers_of};
 use crate::owning::OwningTranscoder;
-use crate::report::{PayloadReport, Report};
+use spec_library::{PayloadReport, Report};
 
 /// An item of a batch: where its payload is in a buffer that the items share, where its output begins in a room that
 /// they share, and what is reported of it.
@@ -66,7 +66,7 @@ impl OwningTranscoder {
             None => Report::OutOfRange,
         };
         item.output_offset = at;
-        item.report = report.numbers();
+        item.report = numbers_of(report);
         next
     }
 

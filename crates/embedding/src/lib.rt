@@ -8,14 +8,13 @@ mod batch;
 mod numbers;
 mod opening;
 mod owning;
-mod report;
 mod status;
 mod texts;
 
 pub use batch::BatchItem;
-pub use numbers::ReportNumbers;
+pub use numbers::{ReportNumbers, numbers_of};
 pub use opening::{OpenError, TextFault, can_read, open, report_reading};
 pub use owning::OwningTranscoder;
-pub use report::{Ids, PayloadReport, Report};
+pub use spec_library::{Ids, PayloadReport, Report};
 pub use status::Status;
 pub use texts::{VERSION, write_words};

@@ -3,9 +3,9 @@
 ghost use Rattle.std.specs.Prelude.{◌≡◌};
 ghost use Rattle.embedding.specs.Numbers.{bare, envelope_code, malformed_code, numbers_of, payload_numbers};
 
-use crate::report::{PayloadReport, Report};
 use crate::status::Status;
 use avro_bytes::MalformedKind;
+use spec_library::{PayloadReport, Report};
 use wire_frames::EnvelopeError;
 
 /// The numbers that represent a report. A part that a report does not have is 0.
@@ -67,55 +67,51 @@ impl ReportNumbers {
     }
 }
 
-impl PayloadReport {
-    /// Returns the numbers that represent it.
-    fn numbers(self) -> ReportNumbers
-        ensures { result ≡ payload_numbers self }
-    {
-        match self {
-            PayloadReport::Done { length } => ReportNumbers {
-                length,
-                ..ReportNumbers::bare(Status::Done)
-            },
-            PayloadReport::RoomTooSmall { length } => ReportNumbers {
-                length,
-                ..ReportNumbers::bare(Status::RoomTooSmall)
-            },
-            PayloadReport::Mismatch(mismatch) => ReportNumbers {
-                kind: u32::from(mismatch.kind.code()),
-                writer_node: mismatch.writer_node,
-                reader_node: mismatch.reader_node,
-                ..ReportNumbers::bare(Status::Mismatch)
-            },
-            PayloadReport::Malformed { kind, at } => ReportNumbers {
-                kind: malformed_code(kind),
-                offset: at,
-                ..ReportNumbers::bare(Status::Malformed)
-            },
-            PayloadReport::OutputTooLarge => ReportNumbers::bare(Status::OutputTooLarge),
-            PayloadReport::PayloadTooLarge => ReportNumbers::bare(Status::PayloadTooLarge),
-            PayloadReport::NoMemory => ReportNumbers::bare(Status::NoMemory),
-        }
+/// Returns the numbers that represent the report of a payload.
+fn payload_numbers(report: PayloadReport) -> ReportNumbers
+    ensures { result ≡ payload_numbers report }
+{
+    match report {
+        PayloadReport::Done { length } => ReportNumbers {
+            length,
+            ..ReportNumbers::bare(Status::Done)
+        },
+        PayloadReport::RoomTooSmall { length } => ReportNumbers {
+            length,
+            ..ReportNumbers::bare(Status::RoomTooSmall)
+        },
+        PayloadReport::Mismatch(mismatch) => ReportNumbers {
+            kind: u32::from(mismatch.kind.code()),
+            writer_node: mismatch.writer_node,
+            reader_node: mismatch.reader_node,
+            ..ReportNumbers::bare(Status::Mismatch)
+        },
+        PayloadReport::Malformed { kind, at } => ReportNumbers {
+            kind: malformed_code(kind),
+            offset: at,
+            ..ReportNumbers::bare(Status::Malformed)
+        },
+        PayloadReport::OutputTooLarge => ReportNumbers::bare(Status::OutputTooLarge),
+        PayloadReport::PayloadTooLarge => ReportNumbers::bare(Status::PayloadTooLarge),
+        PayloadReport::NoMemory => ReportNumbers::bare(Status::NoMemory),
     }
 }
 
-impl Report {
-    /// Returns the numbers that represent it.
-    pub fn numbers(self) -> ReportNumbers
-        ensures { result ≡ numbers_of self }
-    {
-        match self {
-            Report::Payload(report) => report.numbers(),
-            Report::Closed => ReportNumbers::bare(Status::Closed),
-            Report::BadEnvelope(error) => ReportNumbers {
-                kind: envelope_code(error),
-                ..ReportNumbers::bare(Status::BadEnvelope)
-            },
-            Report::OtherWriter { id } => ReportNumbers {
-                writer_id: id,
-                ..ReportNumbers::bare(Status::OtherWriter)
-            },
-            Report::OutOfRange => ReportNumbers::bare(Status::OutOfRange),
-        }
+/// Returns the numbers that represent a report.
+pub fn numbers_of(report: Report) -> ReportNumbers
+    ensures { result ≡ numbers_of report }
+{
+    match report {
+        Report::Payload(report) => payload_numbers(report),
+        Report::Closed => ReportNumbers::bare(Status::Closed),
+        Report::BadEnvelope(error) => ReportNumbers {
+            kind: envelope_code(error),
+            ..ReportNumbers::bare(Status::BadEnvelope)
+        },
+        Report::OtherWriter { id } => ReportNumbers {
+            writer_id: id,
+            ..ReportNumbers::bare(Status::OtherWriter)
+        },
+        Report::OutOfRange => ReportNumbers::bare(Status::OutOfRange),
     }
 }

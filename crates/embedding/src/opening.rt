@@ -1,7 +1,7 @@
 //! Pairs of schemas, by their texts.
 
 ghost use Rattle.std.specs.Prelude.{◌≡◌, List, Ok, ℕ};
-ghost use Rattle.avro_schema.specs.Schema.{schema_of};
+ghost use Rattle.spec_schema.specs.Schema.{schema_of};
 ghost use Rattle.spec_avro.specs.Node.{Node};
 ghost use Rattle.embedding.specs.Opening.{IsOpenError, IsTextFault, Opens, ParsesBytes, TellsReading, TellsSafety, fault_code, fault_of, status_of};
 ghost use Rattle.embedding.specs.Status.{code_of};

@@ -1,17 +1,18 @@
 //! A pair of schemas, and all that it takes to transcode one payload after another.
 
 ghost use Rattle.std.specs.Prelude.{◌≡◌, ◌≤◌, ◌+◌, ◌++◌, ℕ, List, None, IfErr, IfOk, length, take};
-ghost use Rattle.program_definition.specs.Code.{code_of};
+ghost use Rattle.spec_machine.specs.Code.{code_of};
 ghost use Rattle.program_compiler.specs.declared.error.CompileError.TheVariants.{ProgramTooLarge};
-ghost use Rattle.wire_frames.specs.Envelope.{prefix};
-ghost use Rattle.embedding.specs.Report.{IsMessageReport, IsPayloadReport, TellsOutcome, TellsRefusal};
+ghost use Rattle.spec_registry.specs.Envelope.{prefix};
+ghost use Rattle.spec_library.specs.Report.{IsMessageReport, IsPayloadReport};
+ghost use Rattle.embedding.specs.Report.{TellsOutcome, TellsRefusal};
 
-use crate::report::{Ids, PayloadReport, Report};
 use avro_bytes::Outcome;
 use avro_schema::Schema;
 use machine::{PairProgram, TranscodingRoom};
 use program_compiler::CompileError;
 use resolver::TranscodeError;
+use spec_library::{Ids, PayloadReport, Report};
 use std::alloc::Global;
 use std::marker::Model;
 use wire_frames::{PREFIX_LENGTH, open_envelope};
@@ -28,7 +29,7 @@ pub struct OwningTranscoder {
 impl Model for OwningTranscoder {
     ghost use Rattle.std.specs.Coded.{codes};
     ghost use Rattle.avro_types.specs.DatumCode.{datum_coded};
-    ghost use Rattle.embedding.specs.Pair.{Pair};
+    ghost use Rattle.spec_library.specs.Pair.{Pair};
 
     ghost Value = { Pair };
 

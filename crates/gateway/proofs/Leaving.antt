@@ -2,7 +2,7 @@
 use Rattle.std.proofs.Common.{inl, inr, sym, ◌∙◌}
 use Rattle.std.proofs.lemmas.Bool.Decides.{eqb_tells}
 use Rattle.session_pool.specs.declared.pool.ClientSeat.{ClientSeat}
-use Rattle.session_pool.specs.Pass.{Pass}
+use Rattle.spec_sessions.specs.Pass.{Pass}
 use Rattle.session_pool.specs.Seats.{IsGone, KeepsOthers}
 use Rattle.gateway.specs.Stopping.{IsGivenUp, LetsGo}
 

@@ -1,7 +1,7 @@
 -- Why a session was stopped, after more calls.
 use Rattle.std.proofs.Common.{Result, Ok, Err, IfErr}
-use Rattle.gateway_core.specs.declared.transcode.TranscodeFault.{TranscodeFault}
-use Rattle.gateway_core.specs.declared.transcode.TranscodeFault.TheVariants.{ProgramTooLarge, Clash, Full, NotFinished, NoMemory}
+use Rattle.spec_service.specs.declared.transcode_fault.TranscodeFault.{TranscodeFault}
+use Rattle.spec_service.specs.declared.transcode_fault.TranscodeFault.TheVariants.{ProgramTooLarge, Clash, Full, NotFinished, NoMemory}
 use Rattle.gateway.specs.Stopping.{IsWhyStopped}
 
 -- where the gate said no in some calls, and so in all of them

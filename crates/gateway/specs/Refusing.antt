@@ -1,8 +1,8 @@
 -- Why a pool has no outcome for a pair of schemas. All of this is this project's own.
 use Rattle.std.specs.Prelude.{⊤}
-use Rattle.schema_registry.specs.Shared.{Shown}
-use Rattle.gateway_core.specs.declared.transcode.TranscodeFault.{TranscodeFault}
-use Rattle.gateway_core.specs.declared.transcode.TranscodeFault.TheVariants as faults
+use Rattle.spec_registry.specs.Receipt.{Shown}
+use Rattle.spec_service.specs.declared.transcode_fault.TranscodeFault.{TranscodeFault}
+use Rattle.spec_service.specs.declared.transcode_fault.TranscodeFault.TheVariants as faults
 use Rattle.session_pool.specs.declared.pool.ClientSeat.{ClientSeat}
 use Rattle.session_pool.specs.declared.refusals.OpenError.{OpenError}
 use Rattle.session_pool.specs.declared.refusals.OpenError.TheVariants as opening

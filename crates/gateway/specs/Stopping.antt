@@ -1,9 +1,9 @@
 -- Why a session that was opened comes to no outcome, and what is then left of it. All of this is this project's own.
 use Rattle.std.specs.Prelude.{◌⊎◌, ℕ, ◌+◌, ⊤}
-use Rattle.gateway_core.specs.declared.transcode.TranscodeFault.{TranscodeFault}
-use Rattle.gateway_core.specs.declared.transcode.TranscodeFault.TheVariants.{ProgramTooLarge, Clash, Full, NotFinished, NoMemory}
+use Rattle.spec_service.specs.declared.transcode_fault.TranscodeFault.{TranscodeFault}
+use Rattle.spec_service.specs.declared.transcode_fault.TranscodeFault.TheVariants.{ProgramTooLarge, Clash, Full, NotFinished, NoMemory}
 use Rattle.session_pool.specs.declared.pool.ClientSeat.{ClientSeat}
-use Rattle.session_pool.specs.Pass.{Pass}
+use Rattle.spec_sessions.specs.Pass.{Pass}
 use Rattle.session_pool.specs.Seats.{Finds, IsGone, KeepsAll, KeepsOthers}
 use Rattle.session_pool_slots.specs.Words.{with_worker}
 use Rattle.gateway.specs.declared.ending.TheConstants.{MOST_ABANDONS}

@@ -1,14 +1,16 @@
 //! One request answered, from a pool: of those that were received, or read and written.
 
 ghost use Rattle.std.specs.Prelude.{◌≡◌, ◌++◌, ℕ, IfErr, IfOk, List, Option, Result};
-ghost use Rattle.gateway_requests.specs.Request.{Request as Asked, request_of};
+ghost use Rattle.spec_service.specs.Request.{Request as Asked};
+ghost use Rattle.gateway_requests.specs.Request.{request_of};
 ghost use Rattle.gateway_requests.specs.Sizes.{IsWithin};
 ghost use Rattle.gateway_requests.specs.Steps.{Tells};
-ghost use Rattle.gateway_requests.specs.declared.limits.TheConstants.{MOST_BODY};
+ghost use Rattle.spec_service.specs.declared.limits.TheConstants.{MOST_BODY};
 ghost use Rattle.session_pool.specs.Seats.{Rests};
 ghost use Rattle.gateway_core.specs.Gates.{SaidNo};
-ghost use Rattle.gateway_core.specs.NamedServing.{IsNamedReply, IsNamedReplyTo};
-ghost use Rattle.gateway_core.specs.Serving.{IsFault, IsReplied, IsReplyTo, IsServed, ServesSome, TellsRequest};
+ghost use Rattle.spec_service.specs.NamedServing.{IsNamedReply, IsNamedReplyTo};
+ghost use Rattle.gateway_core.specs.Serving.{IsFault, ServesSome, TellsRequest};
+ghost use Rattle.spec_service.specs.Serving.{IsReplied, IsReplyTo, IsServed};
 ghost use Rattle.gateway_core.specs.Transcoding.{IsWhyNone};
 ghost use Rattle.gateway.specs.Refusing.{Refuses};
 
@@ -16,6 +18,7 @@ use crate::app::App;
 use crate::pooled::Pooled;
 use gateway_core::{Evidence, Gate, NamedReply, Reply, Schemas, ServeError, TellError};
 use gateway_requests::{Fault, Request};
+use schema_registry::Receipt;
 use session_pool::ClientSeat;
 use std::alloc::AllocError;
 use std::io::{Read, Write};
@@ -95,7 +98,7 @@ pub fn serve_and_tell<'p, R: Wait, I: Read, O: Write, G: Gate>(
     reader: &mut I,
     writer: &mut O,
     gate: &mut G,
-) -> Result<(u16, Evidence), TellError>
+) -> Result<(u16, Evidence<Receipt>), TellError>
     requires { Rests app.now.pool.now seat.old }
     ensures seat { Rests app.now.pool.now seat.new }
     ensures served { IfOk result (λ told. IsServed (IsWhyNone (Refuses seat.old seat.new)

@@ -1,16 +1,18 @@
 -- What is answered and written, from what is asked and returned.
 use Rattle.std.proofs.Common.{◌≡◌, ◌≢◌, ◌⊎◌, ℕ, List, Option, Result, Err, sym, subst, inl, inr, ◌∙◌, ap}
-use Rattle.gateway_requests.specs.Answer.{Answer, Refused}
-use Rattle.gateway_requests.specs.declared.fault.Fault.{Fault}
-use Rattle.gateway_requests.specs.declared.fault.Fault.TheVariants as faults
-use Rattle.gateway_core.specs.declared.evidence.Evidence.{Evidence}
-use Rattle.gateway_core.specs.declared.transcode.TranscodeFault.{TranscodeFault}
-use Rattle.schema_registry.specs.Shared.{Shown}
-use Rattle.gateway_requests.specs.Request.{Request, request_of}
+use Rattle.spec_service.specs.Answer.{Answer, Refused}
+use Rattle.spec_service.specs.declared.fault.Fault.{Fault}
+use Rattle.spec_service.specs.declared.fault.Fault.TheVariants as faults
+use Rattle.spec_service.specs.Evidence.{Evidence}
+use Rattle.spec_service.specs.declared.transcode_fault.TranscodeFault.{TranscodeFault}
+use Rattle.spec_registry.specs.Receipt.{Shown}
+use Rattle.spec_service.specs.Request.{Request}
+use Rattle.gateway_requests.specs.Request.{request_of}
 use Rattle.gateway_requests.specs.Steps.{Tells}
 use Rattle.gateway_requests.specs.declared.request.Request as rust
-use Rattle.gateway_core.specs.Answering.{Answers}
-use Rattle.gateway_core.specs.Serving.{IsAnswer, IsAnswerTo, IsReplied, IsReplyTo, IsTextOf, TellsRequest}
+use Rattle.spec_service.specs.Answering.{Answers}
+use Rattle.spec_service.specs.Serving.{IsAnswer, IsAnswerTo, IsReplied, IsReplyTo}
+use Rattle.gateway_core.specs.Serving.{IsTextOf, TellsRequest}
 use Rattle.gateway_core.proofs.Faults.{memory_or_another}
 
 module _ (refuses : Shown → Shown → TranscodeFault → Type 0)

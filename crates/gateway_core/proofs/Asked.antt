@@ -7,16 +7,17 @@ use Rattle.httparse.specs.Spans.{IsRequestAt}
 use Rattle.httparse.specs.declared.spans.HeaderSpan.{HeaderSpan}
 use Rattle.httparse.specs.declared.spans.RequestSpans.{RequestSpans}
 use Rattle.httparse.proofs.GrammarLemmas.{ReadsRequest-append}
-use Rattle.gateway_requests.specs.Front.{HasNoHead, IsAllowed}
+use Rattle.spec_service.specs.Front.{HasNoHead, IsAllowed}
 use Rattle.gateway_requests.specs.RequestBody.{IsBodyOf}
-use Rattle.gateway_requests.specs.declared.fault.Fault.{Fault}
-use Rattle.gateway_requests.specs.declared.fault.Fault.TheVariants.{BadRequest}
+use Rattle.spec_service.specs.declared.fault.Fault.{Fault}
+use Rattle.spec_service.specs.declared.fault.Fault.TheVariants.{BadRequest}
 use Rattle.gateway_requests.specs.declared.request.Request as rust
 use Rattle.gateway_requests.specs.Steps.{Tells}
-use Rattle.gateway_requests.specs.Request.{Request, request_of}
-use Rattle.gateway_requests.specs.Asking.{asked, asked_for, body_in, chosen}
-use Rattle.gateway_requests.specs.declared.choosing.Chosen.{Chosen}
-use Rattle.gateway_requests.specs.Path.{path_of}
+use Rattle.spec_service.specs.Request.{Request}
+use Rattle.gateway_requests.specs.Request.{request_of}
+use Rattle.spec_service.specs.Asking.{asked, asked_for, body_in, chosen}
+use Rattle.spec_service.specs.declared.chosen.Chosen.{Chosen}
+use Rattle.spec_service.specs.Path.{path_of}
 use Rattle.gateway_core.specs.Serving.{TellsAsked, TellsRequest}
 
 pub body_is : (left front : List ℕ) (n : ℕ) (got : Option (List ℕ)) → IsBodyOf (Some left) front n got → got ≡ body_in n (front ++ left)

@@ -1,13 +1,13 @@
 -- The bytes and the status of an answer that rests on the schemas of another registry.
 use Rattle.std.proofs.Common.{◌≡◌, ◌⊎◌, ℕ, List, Option, Result, sym, subst, inl, inr}
-use Rattle.gateway_requests.specs.Answer.{Answer, Refused}
-use Rattle.gateway_requests.specs.declared.fault.Fault.{Fault}
-use Rattle.gateway_requests.specs.declared.fault.Fault.TheVariants as faults
-use Rattle.gateway_core.specs.declared.named.Sight.{Sight}
-use Rattle.gateway_core.specs.declared.transcode.TranscodeFault.{TranscodeFault}
-use Rattle.schema_registry.specs.Shared.{Shown}
-use Rattle.gateway_core.specs.NamedServing.{IsNamedAnswer, IsNamedAnswerTo, IsNamedReply, IsNamedReplyTo}
-use Rattle.gateway_requests.specs.Request.{Request}
+use Rattle.spec_service.specs.Answer.{Answer, Refused}
+use Rattle.spec_service.specs.declared.fault.Fault.{Fault}
+use Rattle.spec_service.specs.declared.fault.Fault.TheVariants as faults
+use Rattle.spec_service.specs.Evidence.{Sight}
+use Rattle.spec_service.specs.declared.transcode_fault.TranscodeFault.{TranscodeFault}
+use Rattle.spec_registry.specs.Receipt.{Shown}
+use Rattle.spec_service.specs.NamedServing.{IsNamedAnswer, IsNamedAnswerTo, IsNamedReply, IsNamedReplyTo}
+use Rattle.spec_service.specs.Request.{Request}
 use Rattle.gateway_core.specs.Serving.{IsTextOf}
 
 module _ (refuses : Shown → Shown → TranscodeFault → Type 0) {E : Type 0} (cells : List ℕ)

@@ -1,20 +1,8 @@
 -- A message of one id's schema, rewritten for another's, wherever the ids are from. This project's own.
-use Rattle.std.specs.Prelude.{◌≡◌, ◌⊎◌, ℕ, List}
-use Rattle.schema_registry.specs.Shared.{Shown, IsReceiptOf}
-use Rattle.wire_frames.specs.Envelope.{envelope, IsNoMessage}
-use Rattle.wire_frames.specs.declared.envelope.EnvelopeError.{EnvelopeError}
-use Rattle.gateway_requests.specs.Answer.{Answer}
-use Rattle.gateway_requests.specs.declared.fault.Fault.{Fault}
-use Rattle.gateway_requests.specs.declared.fault.Fault.TheVariants as faults
-use Rattle.gateway_core.specs.declared.schemas.NamedSchema.{NamedSchema}
-use Rattle.gateway_core.specs.declared.transcode.TranscodeFault.{TranscodeFault}
-use Rattle.gateway_core.specs.Outcomes.{TellsOutcome}
-
--- the reader that an id names was found, and no writer: the bytes are no message, or their id names no schema
-abbrev pub HasNoWriter : (ℕ → Fault → Type 0) → List ℕ → Fault → Type 0
-HasNoWriter refuses message fault =
-    ((e : EnvelopeError) × IsNoMessage message e × (fault ≡ faults.BadEnvelope e))
-    ⊎ ((writer : ℕ) × (payload : List ℕ) × (message ≡ envelope writer payload) × refuses writer fault)
+use Rattle.std.specs.Prelude.{◌≡◌, ℕ, List}
+use Rattle.spec_registry.specs.Receipt.{Shown, IsReceiptOf}
+use Rattle.spec_registry.specs.Envelope.{envelope}
+use Rattle.spec_service.specs.Evidence.{NamedSchema}
 
 -- for private clauses: the message is that of a writer and a payload, and its id and the reader's name two schemas
 pub record IsPaired {E : Type 0} (cells : List ℕ) (names : ℕ → Shown → E → Type 0) (id : ℕ) (message : List ℕ)
@@ -25,17 +13,3 @@ pub record IsPaired {E : Type 0} (cells : List ℕ) (names : ℕ → Shown → E
   pub is_reader : IsReceiptOf cells reader.receipt
   pub writer_named : names writer_id writer.receipt writer.seen
   pub reader_named : names id reader.receipt reader.seen
-
--- the answer to the reader that an id names, from the message of the writer that the envelope's id names; `names` says
--- when what was seen shows that an id names the schema of a receipt
-pub record TellsNamed (refuses : Shown → Shown → TranscodeFault → Type 0) {E : Type 0} (cells : List ℕ)
-    (names : ℕ → Shown → E → Type 0) (id : ℕ) (message : List ℕ) (writer reader : NamedSchema E) (answer : Answer)
-    : Type 0 where
-  pub writer_id : ℕ
-  pub payload : List ℕ
-  pub message_is : message ≡ envelope writer_id payload
-  pub is_writer : IsReceiptOf cells writer.receipt
-  pub is_reader : IsReceiptOf cells reader.receipt
-  pub writer_named : names writer_id writer.receipt writer.seen
-  pub reader_named : names id reader.receipt reader.seen
-  pub tells : TellsOutcome refuses writer.receipt reader.receipt id payload answer

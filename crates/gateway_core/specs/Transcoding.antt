@@ -1,11 +1,11 @@
 -- The outcome of a payload between the schemas of two receipts, or why there is none. This project's own.
 use Rattle.std.specs.Prelude.{List, ℕ, IfSome}
-use Rattle.avro_bytes.specs.Outcome.{outcome_of}
-use Rattle.avro_bytes.specs.declared.payload.Outcome as rust
+use Rattle.spec_avro.specs.Outcome.{outcome_of}
+use Rattle.spec_avro.specs.declared.outcome.Outcome as rust
 use Rattle.spec_avro.specs.PayloadOutcome.{IsOutcome}
-use Rattle.schema_registry.specs.Shared.{Shown}
-use Rattle.gateway_core.specs.declared.transcode.TranscodeFault.{TranscodeFault}
-use Rattle.gateway_core.specs.declared.transcode.TranscodeFault.TheVariants.{ProgramTooLarge, Clash, Full, NotFinished, NoMemory}
+use Rattle.spec_registry.specs.Receipt.{Shown}
+use Rattle.spec_service.specs.declared.transcode_fault.TranscodeFault.{TranscodeFault}
+use Rattle.spec_service.specs.declared.transcode_fault.TranscodeFault.TheVariants.{ProgramTooLarge, Clash, Full, NotFinished, NoMemory}
 
 -- what becomes of a payload between the schemas of two receipts
 abbrev pub HasOutcome : Shown → Shown → List ℕ → rust.Outcome → Type 0

@@ -1,26 +1,29 @@
 //! Requests and their answers.
 
 ghost use Rattle.std.specs.Prelude.{◌≡◌, ◌⊎◌, IfNone, IfOk, IfSome, Ok, string_bytes};
-ghost use Rattle.schema_registry.specs.Command.{Command as AnyCommand, command_of};
+ghost use Rattle.spec_registry.specs.Command.{Command as AnyCommand};
+ghost use Rattle.schema_registry.specs.Command.{command_of};
 ghost use Rattle.schema_registry.specs.Reply.{reply_of};
-ghost use Rattle.schema_registry.specs.Shared.{IsReceiptOf};
-ghost use Rattle.gateway_requests.specs.Answer.{Refused, answer_of};
+ghost use Rattle.spec_registry.specs.Receipt.{IsReceiptOf};
+ghost use Rattle.spec_service.specs.Answer.{Refused};
+ghost use Rattle.gateway_requests.specs.Answer.{answer_of};
 ghost use Rattle.gateway_requests.specs.Request.{request_of};
 ghost use Rattle.gateway_requests.specs.Sizes.{IsWithin};
-ghost use Rattle.gateway_requests.specs.declared.limits.TheConstants.{MOST_BODY};
-ghost use Rattle.gateway_core.specs.Answering.{Fulfils, HasText, IsEntry, IsEvident, IsTold, TellsClash, TellsId, TellsReply, TellsText};
+ghost use Rattle.spec_service.specs.declared.limits.TheConstants.{MOST_BODY};
+ghost use Rattle.spec_service.specs.Answering.{Fulfils, HasText, IsEvident, TellsClash, TellsId, TellsReply, TellsText};
+ghost use Rattle.gateway_core.specs.Answering.{IsEntry, IsTold};
 ghost use Rattle.gateway_core.specs.Gates.{SaidNo};
 ghost use Rattle.gateway_core.specs.Replies.{SetsLevel};
 ghost use Rattle.gateway_core.specs.Transcoding.{IsWhyNone};
 
 use crate::app::App;
-use crate::evidence::Evidence;
 use crate::gate::Gate;
 use crate::messages::{MessageFor, tell_message};
 use crate::replies::{fault_of, reply_text};
 use crate::transcode::Transcode;
 use gateway_requests::{Answer, Fault, Request, id_text, schema_text};
 use schema_registry::{Command, Receipt, Reply, SharedRegistry};
+use spec_service::Evidence;
 use std::alloc::{AllocError, Global};
 use std::sync::Wait;
 
@@ -28,7 +31,7 @@ use std::sync::Wait;
 #[derive(Drop)]
 pub(crate) struct Told {
     pub(crate) answer: Answer,
-    pub(crate) evidence: Evidence,
+    pub(crate) evidence: Evidence<Receipt>,
 }
 
 /// Returns a fault as an answer, which rests on no receipt.
@@ -57,7 +60,7 @@ fn receipt_of(registry: &SharedRegistry, id: u32, text: &str) -> Option<Receipt>
 
 /// Returns the receipt that a reply rests on, where it shows a text beside an id. `None` where there should be one
 /// and this thread sees none.
-fn evidence_of(registry: &SharedRegistry, reply: &Reply) -> Option<Evidence>
+fn evidence_of(registry: &SharedRegistry, reply: &Reply) -> Option<Evidence<Receipt>>
     ensures found { IfSome result (λ evidence. IsEvident registry.now (Ok (reply_of reply.now)) evidence) }
     ensures missing { IfNone result (IsEntry (reply_of reply.now)) }
 {

@@ -5,7 +5,6 @@
 
 mod answering;
 mod app;
-mod evidence;
 mod gate;
 mod messages;
 mod named;
@@ -18,7 +17,6 @@ mod transcode;
 mod writing;
 
 pub use app::App;
-pub use evidence::Evidence;
 pub use gate::{Gate, Place};
 pub use gateway_requests::AnswerBytes;
 pub use messages::{NamedPair, Rewritten, Unpaired};
@@ -27,4 +25,5 @@ pub use replying::{Reply, reply_to};
 pub use schemas::{NamedSchema, Schemas};
 pub use serve_error::{ServeError, TellError};
 pub use serving::{serve_and_tell, serve_one};
+pub use spec_service::Evidence;
 pub use transcode::{ReceiptPair, Transcode, TranscodeFault};

@@ -1,25 +1,27 @@
 //! A message of one schema, rewritten for another.
 
 ghost use Rattle.std.specs.Prelude.{◌≡◌, ◌≤◌, ◌⊎◌, IfErr, IfNone, IfOk, IfSome, length, vec_len};
-ghost use Rattle.avro_bytes.specs.Outcome.{outcome_of};
+ghost use Rattle.spec_avro.specs.Outcome.{outcome_of};
 ghost use Rattle.spec_avro.specs.declared.limits.TheConstants.{MOST_PAYLOAD};
-ghost use Rattle.schema_registry.specs.Shared.{IsReceiptOf};
+ghost use Rattle.spec_registry.specs.Receipt.{IsReceiptOf};
 ghost use Rattle.gateway_requests.specs.Answer.{answer_of};
-ghost use Rattle.gateway_requests.specs.declared.limits.TheConstants.{MOST_BODY};
-ghost use Rattle.gateway_core.specs.Answering.{TellsMessage, TellsNoReader, TellsNoWriter};
+ghost use Rattle.spec_service.specs.declared.limits.TheConstants.{MOST_BODY};
+ghost use Rattle.spec_service.specs.Answering.{TellsMessage, TellsNoReader, TellsNoWriter};
 ghost use Rattle.gateway_core.specs.Gates.{SaidNo};
-ghost use Rattle.gateway_core.specs.Naming.{HasNoWriter, IsPaired, TellsNamed};
-ghost use Rattle.gateway_core.specs.Outcomes.{TellsOutcome, answer_of_outcome, fault_of_transcoding};
+ghost use Rattle.spec_service.specs.NamedMessage.{HasNoWriter, TellsNamed};
+ghost use Rattle.gateway_core.specs.Naming.{IsPaired};
+ghost use Rattle.spec_service.specs.Outcomes.{TellsOutcome, answer_of_outcome, fault_of_transcoding};
 ghost use Rattle.gateway_core.specs.Transcoding.{IsWhyNone};
 
 use crate::answering::{Told, refused};
 use crate::app::App;
-use crate::evidence::Evidence;
 use crate::gate::Gate;
 use crate::schemas::{NamedSchema, OwnSchemas, Schemas};
 use crate::transcode::{ReceiptPair, Transcode, TranscodeFault};
 use avro_bytes::Outcome;
 use gateway_requests::{Answer, Fault};
+use schema_registry::Receipt;
+use spec_service::Evidence;
 use std::sync::Wait;
 use wire_frames::Message;
 
@@ -50,8 +52,8 @@ fn fault_of_transcoding(fault: TranscodeFault) -> Fault
 /// The schemas that the two ids of a message name.
 #[derive(Drop)]
 pub struct NamedPair<E: Drop> {
-    pub writer: NamedSchema<E>,
-    pub reader: NamedSchema<E>,
+    pub writer: NamedSchema<Receipt, E>,
+    pub reader: NamedSchema<Receipt, E>,
 }
 
 /// The answer to a message, and the schemas that it rests on.
@@ -65,7 +67,7 @@ pub struct Rewritten<E: Drop> {
 #[derive(Drop)]
 pub struct Unpaired<E: Drop> {
     pub fault: Fault,
-    pub reader: Option<NamedSchema<E>>,
+    pub reader: Option<NamedSchema<Receipt, E>>,
 }
 
 /// A message, and the id of the schema that it is to be rewritten for.

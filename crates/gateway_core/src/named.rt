@@ -1,13 +1,15 @@
 //! Answers where another registry names the schemas.
 
 ghost use Rattle.std.specs.Prelude.{◌≡◌, ◌++◌, ◌≤◌, ◌⊎◌, ℕ, IfOk, List, None, Option, Result, length};
-ghost use Rattle.gateway_requests.specs.Answer.{Refused, answer_of};
-ghost use Rattle.gateway_requests.specs.Request.{Request as Asked, Transcodes, request_of};
+ghost use Rattle.spec_service.specs.Answer.{Refused};
+ghost use Rattle.gateway_requests.specs.Answer.{answer_of};
+ghost use Rattle.spec_service.specs.Request.{Request as Asked, Transcodes};
+ghost use Rattle.gateway_requests.specs.Request.{request_of};
 ghost use Rattle.gateway_requests.specs.Sizes.{IsWithin};
 ghost use Rattle.gateway_requests.specs.Steps.{Tells};
-ghost use Rattle.gateway_requests.specs.declared.limits.TheConstants.{MOST_BODY};
+ghost use Rattle.spec_service.specs.declared.limits.TheConstants.{MOST_BODY};
 ghost use Rattle.gateway_core.specs.Gates.{SaidNo};
-ghost use Rattle.gateway_core.specs.NamedServing.{FulfilsNamed, IsNamedAnswer, IsNamedAnswerTo, IsNamedReply, IsNamedReplyTo, TellsTextOf, TellsUnnamed};
+ghost use Rattle.spec_service.specs.NamedServing.{FulfilsNamed, IsNamedAnswer, IsNamedAnswerTo, IsNamedReply, IsNamedReplyTo, TellsTextOf, TellsUnnamed};
 ghost use Rattle.gateway_core.specs.Serving.{TellsRequest};
 ghost use Rattle.gateway_core.specs.Transcoding.{IsWhyNone};
 
@@ -15,25 +17,19 @@ use crate::app::App;
 use crate::gate::Gate;
 use crate::messages::{MessageFor, NamedPair, Rewritten, Unpaired, rewrite};
 use crate::replying::bytes_of;
-use crate::schemas::{NamedSchema, Schemas};
+use crate::schemas::Schemas;
 use crate::transcode::Transcode;
 use gateway_requests::{Answer, AnswerBytes, Fault, Request, schema_text};
-use schema_registry::SharedRegistry;
+use schema_registry::{Receipt, SharedRegistry};
+pub use spec_service::Sight;
 use std::alloc::{AllocError, Global};
 use std::sync::Wait;
-
-/// The schemas that an answer rests on: the one of the reader, or of the id that is asked for, and the writer's.
-#[derive(Drop)]
-pub struct Sight<E: Drop> {
-    pub reader: Option<NamedSchema<E>>,
-    pub writer: Option<NamedSchema<E>>,
-}
 
 /// An answer, and the schemas that it rests on.
 #[derive(Drop)]
 struct NamedTold<E: Drop> {
     answer: Answer,
-    sight: Sight<E>,
+    sight: Sight<Receipt, E>,
 }
 
 /// An answer that is not yet written, and the schemas that it rests on.
@@ -41,7 +37,7 @@ struct NamedTold<E: Drop> {
 pub struct NamedReply<E: Drop> {
     pub bytes: AnswerBytes,
     pub status: u16,
-    pub sight: Sight<E>,
+    pub sight: Sight<Receipt, E>,
 }
 
 /// Returns a fault as an answer, which rests on no schema.

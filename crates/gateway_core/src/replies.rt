@@ -2,9 +2,10 @@
 
 ghost use Rattle.std.specs.Prelude.{◌≡◌, IfOk, string_bytes};
 ghost use Rattle.serde_json.specs.Written.{compact_text};
-ghost use Rattle.schema_registry.specs.Command.{Command};
+ghost use Rattle.spec_registry.specs.Command.{Command};
 ghost use Rattle.schema_registry.specs.Reply.{reply_of};
-ghost use Rattle.gateway_core.specs.Replies.{SetsLevel, fault_of, reply_data};
+ghost use Rattle.gateway_core.specs.Replies.{SetsLevel};
+ghost use Rattle.spec_service.specs.RegistryReplies.{fault_of, reply_data};
 
 use avro_schema_names::SchemaError;
 use gateway_requests::{

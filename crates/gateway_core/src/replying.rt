@@ -2,20 +2,23 @@
 
 ghost use Rattle.std.specs.Prelude.{◌≡◌, ◌++◌, ℕ, IfOk, List, Option, Result};
 ghost use Rattle.gateway_requests.specs.Answer.{answer_of};
-ghost use Rattle.gateway_requests.specs.Request.{Request as Asked, request_of};
+ghost use Rattle.spec_service.specs.Request.{Request as Asked};
+ghost use Rattle.gateway_requests.specs.Request.{request_of};
 ghost use Rattle.gateway_requests.specs.Sizes.{IsWithin};
 ghost use Rattle.gateway_requests.specs.Steps.{Tells};
-ghost use Rattle.gateway_requests.specs.declared.limits.TheConstants.{MOST_BODY};
+ghost use Rattle.spec_service.specs.declared.limits.TheConstants.{MOST_BODY};
 ghost use Rattle.gateway_core.specs.Gates.{SaidNo};
-ghost use Rattle.gateway_core.specs.Serving.{IsAnswer, IsAnswerTo, IsReplied, IsReplyTo, IsTextOf, TellsRequest};
+ghost use Rattle.spec_service.specs.Serving.{IsAnswer, IsAnswerTo, IsReplied, IsReplyTo};
+ghost use Rattle.gateway_core.specs.Serving.{IsTextOf, TellsRequest};
 ghost use Rattle.gateway_core.specs.Transcoding.{IsWhyNone};
 
 use crate::answering::{Told, answer, refused};
 use crate::app::App;
-use crate::evidence::Evidence;
 use crate::gate::Gate;
 use crate::transcode::Transcode;
 use gateway_requests::{Answer, AnswerBytes, Fault, Request};
+use schema_registry::Receipt;
+use spec_service::Evidence;
 use std::alloc::{AllocError, Global};
 use std::sync::Wait;
 
@@ -25,7 +28,7 @@ pub struct Reply {
     pub bytes: AnswerBytes,
     pub status: u16,
     /// The receipts that the answer rests on.
-    pub evidence: Evidence,
+    pub evidence: Evidence<Receipt>,
 }
 
 /// Returns the answer to a request, or to its fault.

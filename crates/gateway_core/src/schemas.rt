@@ -4,20 +4,14 @@ ghost use Rattle.std.specs.Prelude.{◌≡◌};
 
 use gateway_requests::Fault;
 use schema_registry::{Receipt, SharedRegistry};
+pub use spec_service::NamedSchema;
 use std::marker::Model;
-
-/// The receipt of a schema that an id names, and what shows that the id names it.
-#[derive(Drop)]
-pub struct NamedSchema<E: Drop> {
-    pub receipt: Receipt,
-    pub seen: E,
-}
 
 /// A source that says which schema an id names. The schemas are those of one registry's receipts.
 pub trait Schemas {
     ghost use Rattle.std.specs.Prelude.{◌≡◌, ℕ, List, IfErr, IfOk};
-    ghost use Rattle.schema_registry.specs.Shared.{Shown, IsReceiptOf};
-    ghost use Rattle.gateway_requests.specs.declared.fault.Fault.{Fault as Refusal};
+    ghost use Rattle.spec_registry.specs.Receipt.{Shown, IsReceiptOf};
+    ghost use Rattle.spec_service.specs.declared.fault.Fault.{Fault as Refusal};
 
     /// What shows that an id names a schema.
     type Seen: Drop;
@@ -32,7 +26,7 @@ pub trait Schemas {
     ghost refuses: { Self → ℕ → Refusal → Type 0 };
 
     /// Returns the schema that an id names. The error says why it names none. It never waits.
-    fn schema_of(&mut self, id: u32) -> Result<NamedSchema<Self::Seen>, Fault>
+    fn schema_of(&mut self, id: u32) -> Result<NamedSchema<Receipt, Self::Seen>, Fault>
         ensures same { self.new ≡ self.old }
         ensures named { IfOk result (λ n. IsReceiptOf (cells self.old) n.receipt
             × names self.old id n.receipt n.seen) }
@@ -55,7 +49,7 @@ impl<'a> Model for OwnSchemas<'a> {
 
 impl<'a> Schemas for OwnSchemas<'a> {
     ghost use Rattle.std.specs.Prelude.{◌≡◌};
-    ghost use Rattle.gateway_requests.specs.declared.fault.Fault.TheVariants as faults;
+    ghost use Rattle.spec_service.specs.declared.fault.Fault.TheVariants as faults;
 
     type Seen = ();
 
@@ -65,7 +59,7 @@ impl<'a> Schemas for OwnSchemas<'a> {
 
     ghost refuses = { λ s id f. f ≡ faults.NoSchema };
 
-    fn schema_of(&mut self, id: u32) -> Result<NamedSchema<()>, Fault> {
+    fn schema_of(&mut self, id: u32) -> Result<NamedSchema<Receipt, ()>, Fault> {
         match self.registry.find(id) {
             Some((_, receipt)) => Ok(NamedSchema { receipt, seen: () }),
             None => Err(Fault::NoSchema),

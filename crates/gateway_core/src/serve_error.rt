@@ -4,8 +4,9 @@ ghost use Rattle.std.specs.Prelude.{◌≡◌};
 ghost use Rattle.gateway_core.specs.Serving.{error_of, without_evidence};
 ghost use Rattle.gateway_core.specs.declared.serve_error.TellError.TheVariants.{NoMemory};
 
-use crate::evidence::Evidence;
 use gateway_requests::ReadError;
+use schema_registry::Receipt;
+use spec_service::Evidence;
 use std::alloc::AllocError;
 use thiserror::Error;
 
@@ -32,7 +33,10 @@ pub enum TellError {
     /// The reader failed.
     ReadFault,
     /// The writer failed after it had taken `sent` bytes of an answer, which rests on this evidence.
-    CutShort { sent: usize, evidence: Evidence },
+    CutShort {
+        sent: usize,
+        evidence: Evidence<Receipt>,
+    },
     /// Even an answer that says so found no memory.
     NoMemory,
 }

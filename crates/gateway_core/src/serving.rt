@@ -4,16 +4,16 @@ ghost use Rattle.std.specs.Prelude.{◌≡◌, ◌⊎◌, ◌++◌, [], Err, IfE
 ghost use Rattle.httparse.specs.Grammar.{RequestHead};
 ghost use Rattle.httparse.specs.Spans.{IsRequestAt, IsRequestWithin};
 ghost use Rattle.gateway_requests.specs.declared.read_error.ReadError.TheVariants as reading;
-ghost use Rattle.gateway_requests.specs.Asking.{asked};
+ghost use Rattle.spec_service.specs.Asking.{asked};
 ghost use Rattle.gateway_requests.specs.Request.{request_of};
 ghost use Rattle.gateway_requests.specs.Sizes.{IsWithin};
-ghost use Rattle.gateway_requests.specs.declared.limits.TheConstants.{MOST_BODY};
+ghost use Rattle.spec_service.specs.declared.limits.TheConstants.{MOST_BODY};
 ghost use Rattle.gateway_core.specs.Gates.{SaidNo};
-ghost use Rattle.gateway_core.specs.Serving.{IsFault, IsServed, ServesSome, TellsAsked, TellsRequest};
+ghost use Rattle.gateway_core.specs.Serving.{IsFault, ServesSome, TellsAsked, TellsRequest};
+ghost use Rattle.spec_service.specs.Serving.{IsServed};
 ghost use Rattle.gateway_core.specs.Transcoding.{IsWhyNone};
 
 use crate::app::App;
-use crate::evidence::Evidence;
 use crate::gate::Gate;
 use crate::replying::{Reply, reply_to};
 use crate::serve_error::{ServeError, TellError};
@@ -24,6 +24,8 @@ use gateway_requests::{
     read_head, request_of,
 };
 use httparse::spans::{EMPTY_HEADER_SPAN, HeaderSpan, RequestSpans};
+use schema_registry::Receipt;
+use spec_service::Evidence;
 use std::alloc::Global;
 use std::io::{Read, Write};
 use std::sync::Wait;
@@ -96,7 +98,7 @@ pub fn serve_and_tell<R: Wait, T: Transcode, I: Read, O: Write, G: Gate>(
     reader: &mut I,
     writer: &mut O,
     gate: &mut G,
-) -> Result<(u16, Evidence), TellError>
+) -> Result<(u16, Evidence<Receipt>), TellError>
     requires cells { T.cells app.now.transcoder.now ≡ app.now.registry.now }
     requires seat { T.rests app.now.transcoder.now seat.old }
     ensures seat { T.rests app.now.transcoder.now seat.new }

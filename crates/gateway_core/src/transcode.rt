@@ -3,23 +3,8 @@
 use crate::gate::Gate;
 use avro_bytes::Outcome;
 use schema_registry::Receipt;
+pub use spec_service::TranscodeFault;
 use std::sync::Wait;
-use thiserror::Error;
-
-/// Why a payload has no outcome.
-#[derive(Clone, Copy, Debug, PartialEq, Eq, Error)]
-pub enum TranscodeFault {
-    #[error("the program of the pair passes a limit")]
-    ProgramTooLarge,
-    #[error("a cell shows another value")]
-    Clash,
-    #[error("all sessions are taken")]
-    Full,
-    #[error("the session was abandoned")]
-    NotFinished,
-    #[error("out of memory")]
-    NoMemory,
-}
 
 /// The receipts of a writer's schema and of a reader's.
 #[derive(Drop)]
@@ -32,8 +17,8 @@ pub struct ReceiptPair {
 pub trait Transcode {
     ghost use Rattle.std.specs.Prelude.{◌≡◌, ◌≤◌, ℕ, List, IfErr, IfOk, vec_len};
     ghost use Rattle.spec_avro.specs.declared.limits.TheConstants.{MOST_PAYLOAD};
-    ghost use Rattle.schema_registry.specs.Shared.{IsReceiptOf, Shown};
-    ghost use Rattle.gateway_core.specs.declared.transcode.TranscodeFault.{TranscodeFault};
+    ghost use Rattle.spec_registry.specs.Receipt.{IsReceiptOf, Shown};
+    ghost use Rattle.spec_service.specs.declared.transcode_fault.TranscodeFault.{TranscodeFault};
     ghost use Rattle.gateway_core.specs.Gates.{SaidNo};
     ghost use Rattle.gateway_core.specs.Transcoding.{HasOutcome, IsWhyNone};
 

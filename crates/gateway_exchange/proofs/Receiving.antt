@@ -9,16 +9,17 @@ use Rattle.httparse.specs.declared.spans.HeaderSpan.{HeaderSpan}
 use Rattle.httparse.specs.declared.spans.RequestSpans.{RequestSpans}
 use Rattle.httparse.specs.declared.spans.Span.{Span}
 use Rattle.httparse.proofs.GrammarLemmas.{ReadsRequest-append}
-use Rattle.gateway_requests.specs.Front.{HasNoHead, IsAllowed}
-use Rattle.gateway_requests.specs.declared.limits.TheConstants.{MOST_FIELDS, MOST_HEAD, MOST_BODY}
+use Rattle.spec_service.specs.Front.{HasNoHead, IsAllowed}
+use Rattle.spec_service.specs.declared.limits.TheConstants.{MOST_FIELDS, MOST_HEAD, MOST_BODY}
 use Rattle.gateway_requests.proofs.Fronts.{head_in_front, is_allowed}
-use Rattle.gateway_requests.specs.declared.fault.Fault.{Fault}
-use Rattle.gateway_requests.specs.declared.fault.Fault.TheVariants.{BadRequest, NoMemory}
-use Rattle.gateway_requests.specs.declared.choosing.Chosen.{Chosen}
+use Rattle.spec_service.specs.declared.fault.Fault.{Fault}
+use Rattle.spec_service.specs.declared.fault.Fault.TheVariants.{BadRequest, NoMemory}
+use Rattle.spec_service.specs.declared.chosen.Chosen.{Chosen}
 use Rattle.gateway_requests.specs.declared.request.Request as rust
-use Rattle.gateway_requests.specs.Asking.{IsAsked, asked, asked_for, body_in, chosen}
-use Rattle.gateway_requests.specs.Path.{path_of}
-use Rattle.gateway_requests.specs.Request.{Request, Asks, AsksSchema, Registers, Transcodes, request_of}
+use Rattle.spec_service.specs.Asking.{IsAsked, asked, asked_for, body_in, chosen}
+use Rattle.spec_service.specs.Path.{path_of}
+use Rattle.spec_service.specs.Request.{Request, Asks, AsksSchema, Registers, Transcodes}
+use Rattle.gateway_requests.specs.Request.{request_of}
 use Rattle.gateway_requests.specs.Sizes.{IsWithin as IsLong, size_of}
 use Rattle.gateway_requests.specs.Steps.{Tells}
 use Rattle.gateway_exchange.specs.Reception.{Received, TellsEach, TellsWhole}
@@ -26,6 +27,7 @@ use Rattle.gateway_exchange.specs.Stages.{HasNoneYet, IsAfterHead, IsBodyStage, 
 use Rattle.gateway_exchange.specs.declared.stage.Headed.{Headed}
 use Rattle.gateway_exchange.specs.declared.stage.Stage.{Stage}
 use Rattle.gateway_exchange.specs.declared.stage.Stage.TheVariants as stages
+use Rattle.wire_frames.specs.Laws.Plain.{take_take}
 
 -- ---- bytes that are refused, whatever follows
 
@@ -66,11 +68,6 @@ pub none_tells : (bytes : List ℕ) → HasNoRequest bytes → TellsWhole bytes 
 none_tells bytes none = no_head_tells bytes (λ head rest reads allowed. none head rest reads)
 
 -- ---- a head that was found
-
--- the first bytes of the first bytes
-take_take : (n m : ℕ) (xs : List ℕ) → n ≤ length (take m xs) → take n (take m xs) ≡ take n xs
-take_take n m xs few =
-    sym (ap (λ (z : List ℕ). take n z) (sym (take-append-drop m xs)) ∙ take-append-le n (take m xs) (drop m xs) few)
 
 -- what a span covers lies in the front that has it
 span_in_front : (len : ℕ) (bytes : List ℕ) (s : Span) → IsWithin len s → len ≤ length bytes

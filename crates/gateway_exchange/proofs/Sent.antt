@@ -5,7 +5,9 @@ use Rattle.std.proofs.Math.Seq.{drop-append-add, drop-drop, take-add}
 use Rattle.std.proofs.KnownBytes.{Appends-kept, Appends-trans, Consumes-kept, Consumes-trans}
 use Rattle.std.specs.Io.KnownBytes.{Appends, Consumes, Keeps}
 use Rattle.wire_frames.specs.Moving.{Receives}
-use Rattle.gateway_exchange.specs.Exchange.{Gains, Sends, Sent}
+use Rattle.gateway_exchange.specs.Exchange.{Gains, Sends}
+use Rattle.spec_service.specs.Sending.{Sent}
+use Rattle.gateway_exchange.specs.Laws.Plain.{no_bytes}
 
 -- a part of the first piece is a part of both
 pub in_front : (n sent : ℕ) (front rest : List ℕ) → sent ≤ length front → n ≤ length (drop sent front)
@@ -19,10 +21,6 @@ pub in_rest : (sent : ℕ) (front rest : List ℕ) → length front ≤ sent
 in_rest sent front rest late =
     let is : length front + (sent - length front) ≡ sent = omega (arith, late) in
     ap (λ (m : ℕ). drop m (front ++ rest)) (sym is) ∙ drop-append-add front rest (sent - length front)
-
-no_bytes : (a : Option (List ℕ)) (bytes : List ℕ) → Appends a a (take 0 bytes)
-no_bytes None bytes = tt
-no_bytes (Some x) bytes = sym (append-nil x)
 
 none_taken : (a : Option (List ℕ)) → Consumes a a []
 none_taken None = tt

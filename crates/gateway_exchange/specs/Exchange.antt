@@ -1,11 +1,7 @@
 -- How far a request and its answer have come over a stream. This project's own.
 use Rattle.std.specs.Prelude.{◌≡◌, ◌+◌, ◌++◌, ℕ, List, Option, take, drop}
 use Rattle.std.specs.Io.KnownBytes.{Appends, Consumes}
-
--- the bytes of an answer, and how many of them were sent
-pub record Sent : Type 0 where
-  pub bytes : List ℕ
-  pub sent : ℕ
+use Rattle.spec_service.specs.Sending.{Sent}
 
 -- some bytes more were taken from a stream, and follow those that came before
 pub record Gains (left rest : Option (List ℕ)) (before after : List ℕ) : Type 0 where

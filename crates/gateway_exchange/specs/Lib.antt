@@ -1,3 +1,4 @@
 pub mod Exchange
 pub mod Reception
 pub mod Stages
+pub mod Laws

@@ -1,8 +1,9 @@
 -- What a request asks whose bytes come one part after another. This project's own, but for what bytes ask.
 use Rattle.std.specs.Prelude.{ℕ, Bool, List, ◌++◌, Result}
-use Rattle.gateway_requests.specs.declared.fault.Fault.{Fault}
-use Rattle.gateway_requests.specs.Asking.{IsAsked}
-use Rattle.gateway_requests.specs.Request.{Request, request_of}
+use Rattle.spec_service.specs.declared.fault.Fault.{Fault}
+use Rattle.spec_service.specs.Asking.{IsAsked}
+use Rattle.spec_service.specs.Request.{Request}
+use Rattle.gateway_requests.specs.Request.{request_of}
 use Rattle.gateway_requests.specs.Steps.{Tells}
 use Rattle.gateway_requests.specs.declared.request.Request as rust
 

@@ -2,10 +2,10 @@
 use Rattle.std.specs.Prelude.{◌≡◌, ◌<◌, ◌≤◌, ℕ, Bool, true, false, List, [], length, take, drop, nat_le, Ok, Err}
 use Rattle.httparse.specs.Grammar.{HasNoRequest, ReadsRequest, RequestHead}
 use Rattle.httparse.specs.Spans.{IsWithin, span_bytes}
-use Rattle.gateway_requests.specs.Front.{IsAllowed}
-use Rattle.gateway_requests.specs.declared.limits.TheConstants.{MOST_HEAD, MOST_BODY}
-use Rattle.gateway_requests.specs.Asking.{chosen}
-use Rattle.gateway_requests.specs.declared.action.Action.TheVariants.{Transcode}
+use Rattle.spec_service.specs.Front.{IsAllowed}
+use Rattle.spec_service.specs.declared.limits.TheConstants.{MOST_HEAD, MOST_BODY}
+use Rattle.spec_service.specs.Asking.{chosen}
+use Rattle.spec_service.specs.declared.action.Action.TheVariants.{Transcode}
 use Rattle.gateway_exchange.specs.Reception.{TellsEach}
 use Rattle.gateway_exchange.specs.declared.stage.Headed.{Headed}
 use Rattle.gateway_exchange.specs.declared.stage.Stage.{Stage}

@@ -3,10 +3,10 @@
 ghost use Rattle.std.specs.Prelude.{◌≡◌, ◌<◌, ◌++◌, [], List, ℕ, IfOk, OnErr, false, length, option_map, true};
 ghost use Rattle.std.specs.Io.KnownBytes.{Keeps};
 ghost use Rattle.wire_frames.specs.Moving.{Receives};
-ghost use Rattle.gateway_requests.specs.Asking.{body_in};
+ghost use Rattle.spec_service.specs.Asking.{body_in};
 ghost use Rattle.gateway_requests.specs.Request.{request_of};
 ghost use Rattle.gateway_requests.specs.Sizes.{IsWithin};
-ghost use Rattle.gateway_requests.specs.declared.limits.TheConstants.{MOST_BODY};
+ghost use Rattle.spec_service.specs.declared.limits.TheConstants.{MOST_BODY};
 ghost use Rattle.gateway_exchange.specs.Reception.{TellsEach, TellsWhole};
 
 use crate::stage::Stage;

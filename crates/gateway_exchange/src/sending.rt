@@ -18,7 +18,7 @@ pub struct Sending {
 
 impl Model for Sending {
     ghost use Rattle.std.specs.Prelude.{◌≤◌, ◌+◌, ◌++◌, length};
-    ghost use Rattle.gateway_exchange.specs.Exchange.{Sent};
+    ghost use Rattle.spec_service.specs.Sending.{Sent};
 
     ghost Value = { Sent };
 

@@ -3,7 +3,7 @@
 ghost use Rattle.std.specs.Prelude.{◌≡◌, ◌≤◌, ◌++◌, IfOk, drop, length, take, vec_len};
 ghost use Rattle.httparse.specs.Grammar.{RequestHead};
 ghost use Rattle.httparse.specs.Spans.{IsRequestAt, IsRequestWithin};
-ghost use Rattle.gateway_requests.specs.declared.limits.TheConstants.{MOST_FIELDS, MOST_HEAD};
+ghost use Rattle.spec_service.specs.declared.limits.TheConstants.{MOST_FIELDS, MOST_HEAD};
 ghost use Rattle.gateway_exchange.specs.Stages.{IsAfterHead, IsBodyStage, Stands, follows};
 
 use crate::stage::{Headed, Stage};

@@ -1,16 +1,18 @@
 -- What is asked over a connection, by what was read of its request.
 use Rattle.std.proofs.Common.{◌≡◌, ℕ, ◌<◌, List, [], ◌∷◌, length, None, Some, Result, Ok, Err, refl, arith}
-use Rattle.gateway_requests.specs.declared.fault.Fault.{Fault}
+use Rattle.spec_service.specs.declared.fault.Fault.{Fault}
 use Rattle.gateway_exchange.specs.Reception.{TellsWhole}
-use Rattle.gateway_requests.specs.Asking.{asked_at}
-use Rattle.gateway_requests.specs.Request.{Request, request_of}
+use Rattle.spec_service.specs.Asking.{asked_at}
+use Rattle.spec_service.specs.Request.{Request}
+use Rattle.gateway_requests.specs.Request.{request_of}
 use Rattle.gateway_requests.specs.Steps.{Tells}
 use Rattle.gateway_requests.specs.declared.request.Request as rust
-use Rattle.persistent_exchange.specs.Answering.{IsNext}
-use Rattle.persistent_exchange.specs.Persistent.{Persistent}
-use Rattle.persistent_exchange.specs.Refused.{IsRefused}
-use Rattle.persistent_exchange.specs.Stream as streams
-use Rattle.gateway_front.specs.Handing.{AsksOver, next, nothing, received, refused}
+use Rattle.spec_service.specs.StreamAnswering.{IsNext}
+use Rattle.spec_service.specs.Persistent.{Persistent}
+use Rattle.spec_service.specs.StreamRefused.{IsRefused}
+use Rattle.spec_service.specs.Stream as streams
+use Rattle.gateway_front.specs.Handing.{AsksOver}
+use Rattle.spec_service.specs.Handing.{next, nothing, received, refused}
 
 -- what is asked by a request itself
 abbrev itself : Result rust.Request Fault → Result Request Fault

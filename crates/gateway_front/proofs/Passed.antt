@@ -3,12 +3,12 @@ use Rattle.std.proofs.Common.{OnOk, Option, Result, Ok, Err}
 use Rattle.std.specs.declared.alloc.AllocError.{AllocError}
 use Rattle.httpdate.specs.declared.date.HttpDate.{HttpDate}
 use Rattle.http_server.specs.History.{IsServed}
-use Rattle.gateway_requests.specs.declared.answer_bytes.AnswerBytes.{AnswerBytes}
-use Rattle.persistent_exchange.specs.Answering.{AnswersNext, CallsFor, IsNext}
-use Rattle.persistent_exchange.specs.Persistent.{Persistent}
-use Rattle.persistent_exchange.specs.Preparing.{answer_of}
-use Rattle.persistent_exchange.specs.Stream.{Asked}
-use Rattle.gateway_front.specs.Passing.{AnswersTheNext}
+use Rattle.spec_service.specs.declared.answer_bytes.AnswerBytes.{AnswerBytes}
+use Rattle.spec_service.specs.StreamAnswering.{AnswersNext, CallsFor, IsNext}
+use Rattle.spec_service.specs.Persistent.{Persistent}
+use Rattle.spec_service.specs.Preparing.{answer_of}
+use Rattle.spec_service.specs.Stream.{Asked}
+use Rattle.spec_service.specs.Passing.{AnswersTheNext}
 
 pub passed : (result : Result (Unit {0}) AllocError) (bytes : AnswerBytes) (date : Option HttpDate) (old new : Persistent)
     → OnOk result (AnswersNext (answer_of bytes date) old.history.calls new.history.calls)

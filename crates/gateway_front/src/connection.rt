@@ -1,7 +1,7 @@
 //! One connection: what has come of its request, what is left of its answer, and until when.
 
 ghost use Rattle.std.specs.Prelude.{IfOk};
-ghost use Rattle.gateway_front.specs.Answered.{IsAnswered};
+ghost use Rattle.spec_service.specs.Answered.{IsAnswered};
 
 use crate::pending::{Answered, pass_on};
 use boxcar::tag::Tag;
@@ -43,7 +43,7 @@ pub struct Connection {
 
 impl Model for Connection {
     ghost use Rattle.std.specs.Prelude.{option_map};
-    ghost use Rattle.gateway_front.specs.Handing.{Handed};
+    ghost use Rattle.spec_service.specs.Handing.{Handed};
 
     ghost Value = { Handed };
 

@@ -2,10 +2,10 @@
 
 ghost use Rattle.std.specs.Prelude.{◌≡◌, ℕ, IfOk, IfSome, List, None, OnOk, Some};
 ghost use Rattle.gateway_front.specs.Handing.{AsksOver};
-ghost use Rattle.gateway_front.specs.Passing.{AnswersTheNext};
+ghost use Rattle.spec_service.specs.Passing.{AnswersTheNext};
 ghost use Rattle.gateway_requests.specs.Request.{request_of};
 ghost use Rattle.gateway_requests.specs.Sizes.{IsWithin};
-ghost use Rattle.gateway_requests.specs.declared.limits.TheConstants.{MOST_BODY};
+ghost use Rattle.spec_service.specs.declared.limits.TheConstants.{MOST_BODY};
 
 use crate::connection::Connection;
 use crate::staying::date;
@@ -35,10 +35,11 @@ pub struct PendingRequest {
 
 impl Model for PendingRequest {
     ghost use Rattle.std.specs.Prelude.{IfOk};
-    ghost use Rattle.gateway_front.specs.Handing.{Handed, AsksOver};
+    ghost use Rattle.spec_service.specs.Handing.{Handed};
+    ghost use Rattle.gateway_front.specs.Handing.{AsksOver};
     ghost use Rattle.gateway_requests.specs.Request.{request_of};
     ghost use Rattle.gateway_requests.specs.Sizes.{IsWithin};
-    ghost use Rattle.gateway_requests.specs.declared.limits.TheConstants.{MOST_BODY};
+    ghost use Rattle.spec_service.specs.declared.limits.TheConstants.{MOST_BODY};
 
     ghost Value = { Handed };
 
@@ -48,12 +49,20 @@ impl Model for PendingRequest {
         × IfOk p.request (λ request. IsWithin MOST_BODY (request_of request)) };
 }
 
-/// A connection, and the answer that is to be sent over it.
+/// A connection, and the answer that is to be sent over it. Callers see it as what is to be sent.
 #[derive(Drop)]
 pub struct Answered {
     pub(crate) connection: Connection,
     /// What is to be sent. `None` of a connection that stays, whose requests and answers have it.
     pub(crate) sending: Option<Sending>,
+}
+
+impl Model for Answered {
+    ghost use Rattle.spec_service.specs.Answered.{Answered as ToSend};
+
+    ghost Value = { ToSend };
+
+    ghost view = { λ a. record { stream = a.connection.stream; sending = a.sending } };
 }
 
 /// A tag of the bytes that were received.

@@ -6,10 +6,10 @@ use Rattle.std.proofs.lemmas.Str.{IsUtf8-from_is_utf8, is_utf8-from_IsUtf8}
 use Rattle.std.proofs.lemmas.Bool.{false_from_ne_true}
 use Rattle.serde_json.specs.Data.{Data, null, boolean, number, string, array, object, no_items, item}
 use Rattle.serde_json.specs.Find.{as_str, get}
-use Rattle.gateway_requests.specs.declared.fault.Fault.TheVariants.{BadBody}
+use Rattle.spec_service.specs.declared.fault.Fault.TheVariants.{BadBody}
 use Rattle.gateway_bodies.specs.Members.{AreMembersOf, data_of, kept}
 use Rattle.gateway_bodies.specs.declared.members.Members.{Members}
-use Rattle.gateway_requests.specs.Body.{has_no_references, is_avro, text_in}
+use Rattle.spec_service.specs.Body.{has_no_references, is_avro, text_in}
 
 -- a test of a value has the same result on what is kept of it
 pub is_avro-kept : (o : Option Data) → is_avro (option_map kept o) ≡ is_avro o

@@ -5,8 +5,8 @@ use Rattle.matchit.specs.Rows.{RowsOf, param_token}
 use Rattle.matchit.specs.Seek.{step, first, with_suffix}
 use Rattle.matchit.proofs.OnLiterals.{matchit_on_literals}
 use Rattle.gateway_requests.specs.Paths.{IsPathOf, IsSegment, subjects, subject, versions, version, schema, compatibility, config, subject_config, transcode}
-use Rattle.gateway_requests.specs.declared.route.Route.{Route}
-use Rattle.gateway_requests.specs.declared.route.Route.TheVariants.{Subjects, Subject, Versions, Version, Schema, Compatibility, Config, SubjectConfig, Transcode}
+use Rattle.spec_service.specs.declared.route.Route.{Route}
+use Rattle.spec_service.specs.declared.route.Route.TheVariants.{Subjects, Subject, Versions, Version, Schema, Compatibility, Config, SubjectConfig, Transcode}
 use Rattle.gateway_requests.proofs.Along.{steps, along, any-ends, any-goes_on, no_cut, slash_cuts, slash_alone}
 use Rattle.gateway_requests.proofs.Found.{text-after, text-before}
 use Rattle.gateway_requests.proofs.Table.{table}

@@ -2,9 +2,9 @@
 use Rattle.std.proofs.Common.{◌≡◌, ◌∙◌, ℕ, List, true, Some, None, codes, refl, arith}
 use Rattle.matchit.proofs.OnLiterals.{matchit_on_literals}
 use Rattle.gateway_requests.specs.Paths.{IsPathOf, IsSegment, subject, versions, version, subject_config}
-use Rattle.gateway_requests.specs.Route.{route_of}
-use Rattle.gateway_requests.specs.declared.route.Route.{Route}
-use Rattle.gateway_requests.specs.declared.route.Route.TheVariants.{Subject, Version, Versions, SubjectConfig}
+use Rattle.spec_service.specs.Route.{route_of}
+use Rattle.spec_service.specs.declared.route.Route.{Route}
+use Rattle.spec_service.specs.declared.route.Route.TheVariants.{Subject, Version, Versions, SubjectConfig}
 use Rattle.gateway_requests.proofs.Each.{path-leads}
 use Rattle.gateway_requests.proofs.Found.{is_text, text-tested}
 use Rattle.gateway_requests.proofs.Table.{route_of-table}

@@ -3,7 +3,7 @@ use Rattle.std.proofs.Common.{◌≡◌, ℕ, List, [], ◌∷◌, map, false, r
 use Rattle.serde_json.specs.Written.{has_float, items_have_float}
 use Rattle.serde_json.specs.View.{items_of}
 use Rattle.serde_json.specs.Data.{string}
-use Rattle.gateway_requests.specs.Replies.{names_data, numbers_data, whole}
+use Rattle.spec_service.specs.Replies.{names_data, numbers_data, whole}
 
 no_float_in_names : (names : List (List ℕ)) → items_have_float (items_of (map string names)) ≡ false
 no_float_in_names [] = refl

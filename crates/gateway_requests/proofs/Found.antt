@@ -4,8 +4,8 @@ use Rattle.std.proofs.lemmas.Bool.Decides.{nat_tests}
 use Rattle.matchit.specs.Rows.{RowsOf, param_token}
 use Rattle.matchit.specs.Level.{IsText}
 use Rattle.gateway_requests.specs.Paths.{IsPathOf, IsSegment, subjects, subject, versions, version, schema, compatibility, config, subject_config, transcode}
-use Rattle.gateway_requests.specs.declared.route.Route.{Route}
-use Rattle.gateway_requests.specs.declared.route.Route.TheVariants.{Subject, Versions, Version, Schema, Compatibility, SubjectConfig, Transcode}
+use Rattle.spec_service.specs.declared.route.Route.{Route}
+use Rattle.spec_service.specs.declared.route.Route.TheVariants.{Subject, Versions, Version, Schema, Compatibility, SubjectConfig, Transcode}
 use Rattle.gateway_requests.proofs.Fits.{Fits, SomeFits, StandsFor}
 use Rattle.gateway_requests.proofs.Table.{any, table}
 

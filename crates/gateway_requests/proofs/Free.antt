@@ -4,9 +4,10 @@ use Rattle.matchit.specs.Route.{parse_route}
 use Rattle.matchit.specs.Router.{RouteOf}
 use Rattle.matchit.specs.Rows.{RowsOf}
 use Rattle.matchit.proofs.OnLiterals.{matchit_on_literals}
-use Rattle.gateway_requests.specs.Route.{IsFree, with_route}
-use Rattle.gateway_requests.specs.declared.route.Route.{Route}
-use Rattle.gateway_requests.specs.declared.route.Route.TheVariants.{Subjects, Subject, Versions, Version, Schema, Compatibility, Config, SubjectConfig}
+use Rattle.gateway_requests.specs.Route.{IsFree}
+use Rattle.spec_service.specs.Route.{with_route}
+use Rattle.spec_service.specs.declared.route.Route.{Route}
+use Rattle.spec_service.specs.declared.route.Route.TheVariants.{Subjects, Subject, Versions, Version, Schema, Compatibility, Config, SubjectConfig}
 
 pub subjects-free : IsFree (parse_route (codes "/subjects")) []
 unfolding matchit_on_literals

@@ -8,8 +8,8 @@ use Rattle.httparse.specs.Grammar.{Field, ReadsRequest, RequestHead, print_reque
 use Rattle.httparse.specs.Spans.{RequestOverflows, AreFieldsAt, header_bytes, name_and_value, IsRequestAt, IsRequestWithin}
 use Rattle.httparse.specs.declared.spans.HeaderSpan.{HeaderSpan}
 use Rattle.httparse.specs.declared.spans.RequestSpans.{RequestSpans}
-use Rattle.gateway_requests.specs.declared.limits.TheConstants.{MOST_FIELDS, MOST_HEAD}
-use Rattle.gateway_requests.specs.Front.{HasNoHead, IsAllowed}
+use Rattle.spec_service.specs.declared.limits.TheConstants.{MOST_FIELDS, MOST_HEAD}
+use Rattle.spec_service.specs.Front.{HasNoHead, IsAllowed}
 use borrow.Rule.Slice.PartMut.{put_mid, post_of}
 
 -- no bytes, or bytes that begin with no head

@@ -1,7 +1,7 @@
 -- Numbers up to a bound.
 use Rattle.std.proofs.Common.{◌≡◌, ℕ, ◌+◌, ◌-◌, ◌*◌, ◌<◌, List, [], ◌∷◌, drop, get_or, length, min, sym, ap, ◌∙◌, arith, add-one}
 use Rattle.std.proofs.Math.Seq.{drop-cons}
-use Rattle.gateway_requests.specs.Digits.{number_after}
+use Rattle.spec_service.specs.Digits.{number_after}
 
 -- a bound at each digit is a bound at the end
 pub bounded_after : (digits : List ℕ) (value most : ℕ)

@@ -3,8 +3,8 @@ use Rattle.std.proofs.Common.{◌≡◌, ◌<◌, ◌∙◌, ℕ, suc, List, [],
 use Rattle.matchit.specs.Level.{IsText}
 use Rattle.matchit.specs.Seek.{first}
 use Rattle.gateway_requests.specs.Paths.{IsPathOf}
-use Rattle.gateway_requests.specs.Route.{route_of}
-use Rattle.gateway_requests.specs.declared.route.Route.{Route}
+use Rattle.spec_service.specs.Route.{route_of}
+use Rattle.spec_service.specs.declared.route.Route.{Route}
 use Rattle.gateway_requests.proofs.Each.{path-leads}
 use Rattle.gateway_requests.proofs.Fits.{first-fits}
 use Rattle.gateway_requests.proofs.Found.{path-of-fits}

@@ -4,9 +4,9 @@ use Rattle.matchit.specs.Rows.{RowsOf, param_token}
 use Rattle.matchit.specs.Router.{RouteOf}
 use Rattle.matchit.specs.Seek.{first}
 use Rattle.matchit.proofs.OnLiterals.{matchit_on_literals}
-use Rattle.gateway_requests.specs.Route.{all_routes, route_of}
-use Rattle.gateway_requests.specs.declared.route.Route.{Route}
-use Rattle.gateway_requests.specs.declared.route.Route.TheVariants.{Subjects, Subject, Versions, Version, Schema, Compatibility, Config, SubjectConfig, Transcode}
+use Rattle.spec_service.specs.Route.{all_routes, route_of}
+use Rattle.spec_service.specs.declared.route.Route.{Route}
+use Rattle.spec_service.specs.declared.route.Route.TheVariants.{Subjects, Subject, Versions, Version, Schema, Compatibility, Config, SubjectConfig, Transcode}
 use Rattle.gateway_requests.proofs.Keys.{with_keys, seek-keys}
 
 -- a parameter

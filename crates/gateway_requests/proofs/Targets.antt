@@ -4,7 +4,7 @@ use Rattle.std.specs.List.{after_first, position_or_len}
 use Rattle.std.proofs.lemmas.Str.{IsUtf8-take, IsCharBoundary-before_ascii, IsCharBoundary-end}
 use Rattle.std.proofs.lemmas.List.Sums.{passes_at_first, prefix_len-le-length}
 use Rattle.std.proofs.lemmas.Bool.Decides.{nat_tests}
-use Rattle.gateway_requests.specs.Path.{path_of, segment}
+use Rattle.spec_service.specs.Path.{path_of, segment}
 
 pub segment_behind : (n k : ℕ) (path : List ℕ) → n ≡ k + 1 → segment k (after_first (λ b. b == 47) path) ≡ segment n path
 segment_behind zero k path is = absurd (let e : ⊥ = omega (arith, is) in e)

@@ -1,21 +1,12 @@
 -- Which head the bytes of a request begin with, as this server takes one.
 use Rattle.std.specs.Prelude.{◌≡◌, ℕ, ◌+◌, ◌≤◌, List, ◌++◌, length, take, Option, IfSome}
 use Rattle.std.specs.Io.KnownBytes.{Consumes, IsAtEnd}
-use Rattle.httparse.specs.Grammar.{ReadsRequest, RequestHead, print_request}
+use Rattle.httparse.specs.Grammar.{RequestHead}
 use Rattle.httparse.specs.Spans.{IsRequestAt, IsRequestWithin}
 use Rattle.httparse.specs.declared.spans.HeaderSpan.{HeaderSpan}
-use Rattle.gateway_requests.specs.declared.limits.TheConstants.{MOST_FIELDS, MOST_HEAD}
 use Rattle.gateway_requests.specs.declared.head.Front.{Front}
 use Rattle.gateway_requests.specs.declared.head.Front.TheVariants.{Head, NoHead}
-
--- a head is within the limits, which are this project's own
-pub record IsAllowed (head : RequestHead) : Type 0 where
-  pub bytes : length (print_request head) ≤ MOST_HEAD
-  pub fields : length head.fields ≤ MOST_FIELDS
-
--- bytes begin with no head (RFC 9112, sections 2 to 5) within the limits
-abbrev pub HasNoHead : List ℕ → Type 0
-HasNoHead input = (head : RequestHead) (rest : List ℕ) → ReadsRequest input head rest → IsAllowed head → ⊥
+use Rattle.spec_service.specs.Front.{IsAllowed, HasNoHead}
 
 -- what was found in the first bytes of a buffer, which are what was taken from a reader
 abbrev pub IsFrontOf : Option (List ℕ) → Option (List ℕ) → List ℕ → List HeaderSpan → Front → Type 0

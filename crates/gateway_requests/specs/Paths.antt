@@ -1,8 +1,8 @@
 -- The paths of the service, by their segments (Confluent Schema Registry API; `/transcode` is this project's own).
 use Rattle.std.specs.Prelude.{◌<◌, ◌++◌, ℕ, List, codes, length}
 use Rattle.std.specs.Path.{HasNoSlash}
-use Rattle.gateway_requests.specs.declared.route.Route.{Route}
-use Rattle.gateway_requests.specs.declared.route.Route.TheVariants.{Subjects, Subject, Versions, Version, Schema, Compatibility, Config, SubjectConfig, Transcode}
+use Rattle.spec_service.specs.declared.route.Route.{Route}
+use Rattle.spec_service.specs.declared.route.Route.TheVariants.{Subjects, Subject, Versions, Version, Schema, Compatibility, Config, SubjectConfig, Transcode}
 
 -- a segment: a text that is not empty and has no slash
 pub record IsSegment (text : List ℕ) : Type 0 where

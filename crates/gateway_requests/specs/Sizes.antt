@@ -1,6 +1,6 @@
 -- How long the message of a request may be. This project's own.
 use Rattle.std.specs.Prelude.{◌≤◌, ℕ, List, length, Option, Some, None}
-use Rattle.gateway_requests.specs.Request.{Request, Asks, Registers, AsksSchema, Transcodes}
+use Rattle.spec_service.specs.Request.{Request, Asks, Registers, AsksSchema, Transcodes}
 
 -- the message in it, if it has one, has at most `most` bytes
 abbrev pub IsWithin : ℕ → Request → Type 0

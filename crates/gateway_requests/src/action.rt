@@ -1,26 +1,10 @@
-//! What a method asks for at a route.
+//! Which action a method asks for at a route.
 
 ghost use Rattle.std.specs.Prelude.{◌≡◌};
-ghost use Rattle.gateway_requests.specs.Action.{action_of, either, only};
+ghost use Rattle.spec_service.specs.Action.{action_of, either, only};
 
 use crate::route::Route;
-
-/// What is asked for at a route.
-#[derive(Clone, Copy, Debug, PartialEq, Eq)]
-pub enum Action {
-    ListSubjects,
-    Lookup,
-    ListVersions,
-    Register,
-    ShowVersion,
-    ShowSchema,
-    Check,
-    ShowLevel,
-    SetLevel,
-    ShowSubjectLevel,
-    SetSubjectLevel,
-    Transcode,
-}
+pub use spec_service::Action;
 
 /// Returns an action where the method is the one that is wanted, else `None`.
 fn only(method: &[u8], wanted: &[u8], action: Action) -> Option<Action>

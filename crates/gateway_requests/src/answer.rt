@@ -1,14 +1,13 @@
 //! What a request is answered: its status, and its bytes.
 
 ghost use Rattle.std.specs.Prelude.{◌≡◌, ◌+◌, ◌++◌, ◌<◌, ◌^◌, IfOk, length, string_bytes, vec_len};
-ghost use Rattle.gateway_requests.specs.Answer.{answer_of, answer_text, content_type_of, status_of_answer};
-ghost use Rattle.gateway_requests.specs.Head.{head_named, head_of, status_line_of};
+ghost use Rattle.gateway_requests.specs.Answer.{answer_of};
+ghost use Rattle.spec_service.specs.Answer.{answer_text, content_type_of, status_of_answer};
+ghost use Rattle.spec_service.specs.Head.{head_named, head_of, status_line_of};
 
-use crate::answer_bytes::AnswerBytes;
-use crate::content_type::ContentType;
 use crate::fault::Fault;
 use crate::replies::fault_text;
-use crate::status::Status;
+use spec_service::{AnswerBytes, ContentType, Status};
 use std::alloc::{AllocError, Global};
 use wire_frames::put_envelope;
 

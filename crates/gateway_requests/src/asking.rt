@@ -2,7 +2,7 @@
 
 ghost use Rattle.std.specs.Prelude.{◌≡◌, IfOk, option_map, string_bytes};
 ghost use Rattle.schema_registry.specs.Command.{command_of};
-ghost use Rattle.gateway_requests.specs.Asking.{asked_for, question, setting};
+ghost use Rattle.spec_service.specs.Asking.{asked_for, question, setting};
 ghost use Rattle.gateway_requests.specs.Request.{request_of};
 ghost use Rattle.gateway_requests.specs.Sizes.{IsWithin, size_of};
 ghost use Rattle.gateway_requests.specs.Steps.{Tells};

@@ -2,8 +2,8 @@
 
 ghost use Rattle.std.specs.Prelude.{◌≡◌, ◌<◌, ◌^◌, All, None, length, map, min, option_map};
 ghost use Rattle.httparse.specs.Spans.{IsHeaderWithin, header_bytes};
-ghost use Rattle.gateway_requests.specs.ContentLength.{declared_length, length_after, length_from};
-ghost use Rattle.gateway_requests.specs.Digits.{number};
+ghost use Rattle.spec_service.specs.ContentLength.{declared_length, length_after, length_from};
+ghost use Rattle.spec_service.specs.Digits.{number};
 
 use crate::digits::{is_number, number_up_to, significant_digits};
 use httparse::spans::HeaderSpan;

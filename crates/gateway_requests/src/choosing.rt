@@ -3,7 +3,7 @@
 ghost use Rattle.std.specs.Prelude.{◌≡◌, ◌≤◌, IfOk};
 ghost use Rattle.httparse.specs.Grammar.{RequestHead};
 ghost use Rattle.httparse.specs.Spans.{IsRequestAt, IsRequestWithin};
-ghost use Rattle.gateway_requests.specs.Asking.{action_at, chosen};
+ghost use Rattle.spec_service.specs.Asking.{action_at, chosen};
 
 use crate::action::{Action, action_of};
 use crate::limits::MOST_BODY;
@@ -11,13 +11,7 @@ use crate::path::path_of;
 use crate::route::Routes;
 use crate::{Fault, content_length};
 use httparse::spans::{HeaderSpan, RequestSpans};
-
-/// What a head asks for, and how many bytes its body has.
-#[derive(Clone, Copy, Debug, PartialEq, Eq)]
-pub struct Chosen {
-    pub action: Action,
-    pub body_length: usize,
-}
+pub use spec_service::Chosen;
 
 /// Returns what a method asks for at a target; or the first fault of its route and its method.
 pub fn action_at(routes: &Routes, method: &[u8], target: &str) -> Result<Action, Fault>

@@ -3,7 +3,7 @@
 ghost use Rattle.std.specs.Prelude.{◌≡◌, ◌<◌, ◌^◌, min};
 ghost use Rattle.std.specs.Char.{is_ascii_digit};
 ghost use Rattle.std.specs.List.{list_all};
-ghost use Rattle.gateway_requests.specs.Digits.{is_number, number, significant_digits};
+ghost use Rattle.spec_service.specs.Digits.{is_number, number, significant_digits};
 
 /// Returns whether each byte is a digit.
 fn are_digits(text: &[u8]) -> bool

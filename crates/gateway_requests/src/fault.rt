@@ -1,189 +1,64 @@
-//! The faults of requests: code, status and text of each.
+//! The texts of faults.
 
 ghost use Rattle.std.specs.Prelude.{◌≡◌, IfOk, string_bytes};
-ghost use Rattle.gateway_requests.specs.Fault.{HasFixedText, code_of, message_of, status_of};
-ghost use Rattle.gateway_requests.specs.declared.fault.Fault.TheVariants.{BadEnvelope, BadSchema, Malformed, Mismatch as MismatchFault, Upstream};
+ghost use Rattle.gateway_requests.specs.Fault.{HasFixedText};
+ghost use Rattle.spec_service.specs.Fault.{message_of};
+ghost use Rattle.spec_service.specs.declared.fault.Fault.TheVariants.{BadEnvelope, BadSchema, Malformed, Mismatch as MismatchFault, Upstream};
 
-use crate::status::Status;
-use crate::upstream_fault::UpstreamFault;
 use avro_bytes::{MalformedKind, Mismatch};
 use avro_schema_names::SchemaError;
-use std::alloc::{AllocError, AllocFailed, Global};
+pub use spec_service::Fault;
+use spec_service::UpstreamFault;
+use std::alloc::{AllocError, Global};
 use wire_frames::EnvelopeError;
 
-/// Why a request is answered with a fault.
-#[derive(Clone, Copy, Debug, PartialEq, Eq)]
-pub enum Fault {
-    /// The bytes are no request within the limits, or the body is cut short or no JSON object.
-    BadRequest,
-    /// The path has no route.
-    NoRoute,
-    /// The route has no such method.
-    NotAllowed,
-    NoSubject,
-    NoVersion,
-    NoSchema,
-    /// The level of the subject refuses the schema.
-    Incompatible,
-    /// The body passes its limit.
-    TooLarge,
-    /// The body has a transfer coding other than `chunked`.
-    UnknownCoding,
-    /// The body's JSON object has no text of an Avro schema without references.
-    BadBody,
-    /// The text in the body is no schema.
-    BadSchema(SchemaError),
-    /// The upstream registry has a schema of another language than Avro under the id.
-    NotAvro,
-    /// The upstream registry's schema of the id refers to others.
-    HasReferences,
-    BadVersion,
-    BadLevel,
-    BadSubject,
-    /// The payload is no datum of the writer's schema: the kind of its first fault, and the number of bytes before
-    /// it.
-    Malformed { kind: MalformedKind, at: usize },
-    /// The payload's datum does not fit the reader's schema.
-    Mismatch(Mismatch),
-    /// The answer would pass its limit.
-    OutputTooLarge,
-    /// The body is no message in the wire format.
-    BadEnvelope(EnvelopeError),
-    /// The program of the two schemas would pass a limit.
-    ProgramTooLarge,
-    /// A cell that is written once shows another value than the one that belongs there.
-    Clash,
-    NoMemory,
-    /// A limit of the registry, or all sessions are taken.
-    Full,
-    /// The session was abandoned before it ended.
-    NotFinished,
-    /// The command would be accepted, and could not be written to the store of the registry.
-    NotStored,
-    /// The route is one of the upstream registry, which this service does not answer for.
-    Elsewhere,
-    /// The schema of an id is not held, and the upstream registry could not be asked for it.
-    Upstream(UpstreamFault),
+/// Returns the text of a fault. The error is that memory ran out.
+pub(crate) fn fault_message(alloc: Global, fault: Fault) -> Result<String, AllocError>
+    ensures { IfOk result (λ text. string_bytes text ≡ message_of fault) }
+{
+    match fault {
+        Fault::BadSchema(error) => bad_schema_message(alloc, error),
+        Fault::Malformed { kind, at } => malformed_message(alloc, kind, at),
+        Fault::Mismatch(mismatch) => mismatch_message(alloc, mismatch),
+        Fault::BadEnvelope(error) => bad_envelope_message(alloc, error),
+        Fault::Upstream(why) => upstream_message(alloc, why),
+        other => String::from_str(alloc, fixed_message(other)),
+    }
 }
 
-impl Fault {
-    /// Returns the code in its answer: the status, or the status followed by two digits (Confluent Schema Registry
-    /// API).
-    pub fn code(self) -> u32
-        ensures { result ≡ code_of self }
-    {
-        match self {
-            Fault::BadRequest => 400,
-            Fault::NoRoute | Fault::Elsewhere => 404,
-            Fault::NotAllowed => 405,
-            Fault::NoSubject => 40401,
-            Fault::NoVersion => 40402,
-            Fault::NoSchema => 40403,
-            Fault::Incompatible => 409,
-            Fault::TooLarge => 41301,
-            Fault::UnknownCoding => 501,
-            Fault::BadBody | Fault::BadSchema(_) | Fault::NotAvro | Fault::HasReferences => 42201,
-            Fault::BadVersion => 42202,
-            Fault::BadLevel => 42203,
-            Fault::Malformed { .. } => 42250,
-            Fault::Mismatch(_) => 42251,
-            Fault::OutputTooLarge => 42252,
-            Fault::BadEnvelope(_) => 42253,
-            Fault::ProgramTooLarge => 42254,
-            Fault::BadSubject => 42261,
-            Fault::Clash => 50001,
-            Fault::NoMemory => 50301,
-            Fault::Full => 50302,
-            Fault::NotFinished => 50303,
-            Fault::NotStored => 50304,
-            Fault::Upstream(_) => 50305,
-        }
-    }
-
-    /// Returns the status of its answer.
-    pub fn status(self) -> Status
-        ensures { result ≡ status_of self }
-    {
-        match self {
-            Fault::BadRequest => Status::BadRequest,
-            Fault::NoRoute
-            | Fault::NoSubject
-            | Fault::NoVersion
-            | Fault::NoSchema
-            | Fault::Elsewhere => Status::NotFound,
-            Fault::NotAllowed => Status::MethodNotAllowed,
-            Fault::Incompatible => Status::Conflict,
-            Fault::TooLarge => Status::PayloadTooLarge,
-            Fault::UnknownCoding => Status::NotImplemented,
-            Fault::BadBody
-            | Fault::BadSchema(_)
-            | Fault::NotAvro
-            | Fault::HasReferences
-            | Fault::BadVersion
-            | Fault::BadLevel
-            | Fault::BadSubject
-            | Fault::Malformed { .. }
-            | Fault::Mismatch(_)
-            | Fault::OutputTooLarge
-            | Fault::BadEnvelope(_)
-            | Fault::ProgramTooLarge => Status::UnprocessableEntity,
-            Fault::Clash => Status::InternalServerError,
-            Fault::NoMemory
-            | Fault::Full
-            | Fault::NotFinished
-            | Fault::NotStored
-            | Fault::Upstream(_) => Status::ServiceUnavailable,
-        }
-    }
-
-    /// Returns its text.
-    pub fn message(self, alloc: Global) -> Result<String, AllocError>
-        ensures { IfOk result (λ text. string_bytes text ≡ message_of self) }
-    {
-        match self {
-            Fault::BadSchema(error) => bad_schema_message(alloc, error),
-            Fault::Malformed { kind, at } => malformed_message(alloc, kind, at),
-            Fault::Mismatch(mismatch) => mismatch_message(alloc, mismatch),
-            Fault::BadEnvelope(error) => bad_envelope_message(alloc, error),
-            Fault::Upstream(fault) => upstream_message(alloc, fault),
-            other => String::from_str(alloc, other.fixed_message()),
-        }
-    }
-
-    /// Returns the text of a fault that has no parts; empty for the others.
-    fn fixed_message(self) -> &'static str
-        ensures { HasFixedText self → result.now ≡ message_of self }
-    {
-        match self {
-            Fault::BadRequest => "bad request",
-            Fault::NoRoute => "no such route",
-            Fault::NotAllowed => "method not allowed",
-            Fault::NoSubject => "subject not found",
-            Fault::NoVersion => "version not found",
-            Fault::NoSchema => "schema not found",
-            Fault::Incompatible => "incompatible schema",
-            Fault::TooLarge => "too large",
-            Fault::UnknownCoding => "unknown transfer coding",
-            Fault::BadBody => "invalid schema: Body",
-            Fault::NotAvro => "invalid schema: NotAvro",
-            Fault::HasReferences => "invalid schema: References",
-            Fault::BadVersion => "invalid version",
-            Fault::BadLevel => "invalid level",
-            Fault::BadSubject => "invalid subject",
-            Fault::OutputTooLarge => "output too large",
-            Fault::ProgramTooLarge => "program too large",
-            Fault::Clash => "clash",
-            Fault::NoMemory => "no memory",
-            Fault::Full => "full",
-            Fault::NotFinished => "not finished",
-            Fault::NotStored => "not stored",
-            Fault::Elsewhere => "no such route: ask the upstream registry",
-            Fault::BadSchema(_)
-            | Fault::Malformed { .. }
-            | Fault::Mismatch(_)
-            | Fault::BadEnvelope(_)
-            | Fault::Upstream(_) => "",
-        }
+/// Returns the text of a fault that has no parts; empty for the others.
+fn fixed_message(fault: Fault) -> &'static str
+    ensures { HasFixedText fault → result.now ≡ message_of fault }
+{
+    match fault {
+        Fault::BadRequest => "bad request",
+        Fault::NoRoute => "no such route",
+        Fault::NotAllowed => "method not allowed",
+        Fault::NoSubject => "subject not found",
+        Fault::NoVersion => "version not found",
+        Fault::NoSchema => "schema not found",
+        Fault::Incompatible => "incompatible schema",
+        Fault::TooLarge => "too large",
+        Fault::UnknownCoding => "unknown transfer coding",
+        Fault::BadBody => "invalid schema: Body",
+        Fault::NotAvro => "invalid schema: NotAvro",
+        Fault::HasReferences => "invalid schema: References",
+        Fault::BadVersion => "invalid version",
+        Fault::BadLevel => "invalid level",
+        Fault::BadSubject => "invalid subject",
+        Fault::OutputTooLarge => "output too large",
+        Fault::ProgramTooLarge => "program too large",
+        Fault::Clash => "clash",
+        Fault::NoMemory => "no memory",
+        Fault::Full => "full",
+        Fault::NotFinished => "not finished",
+        Fault::NotStored => "not stored",
+        Fault::Elsewhere => "no such route: ask the upstream registry",
+        Fault::BadSchema(_)
+        | Fault::Malformed { .. }
+        | Fault::Mismatch(_)
+        | Fault::BadEnvelope(_)
+        | Fault::Upstream(_) => "",
     }
 }
 
@@ -222,26 +97,4 @@ fn upstream_message(alloc: Global, fault: UpstreamFault) -> Result<String, Alloc
 {
     let name = fault.name();
     Ok(format!(in alloc; "upstream registry: {name}")?)
-}
-
-impl From<AllocError> for Fault {
-    ghost use Rattle.std.specs.Prelude.{◌≡◌};
-    ghost use Rattle.gateway_requests.specs.declared.fault.Fault.TheVariants.{NoMemory};
-
-    ghost from_gives = { λ _ e. e ≡ NoMemory };
-
-    fn from(_error: AllocError) -> Fault {
-        Fault::NoMemory
-    }
-}
-
-impl<T: Drop> From<AllocFailed<T>> for Fault {
-    ghost use Rattle.std.specs.Prelude.{◌≡◌};
-    ghost use Rattle.gateway_requests.specs.declared.fault.Fault.TheVariants.{NoMemory};
-
-    ghost from_gives = { λ _ e. e ≡ NoMemory };
-
-    fn from(_error: AllocFailed<T>) -> Fault {
-        Fault::NoMemory
-    }
 }

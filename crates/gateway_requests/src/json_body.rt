@@ -5,12 +5,12 @@ ghost use Rattle.std.specs.Option.{ok_or};
 ghost use Rattle.serde_json.specs.Data.{Data};
 ghost use Rattle.serde_json.specs.Find.{as_str};
 ghost use Rattle.gateway_bodies.specs.Members.{AreMembersOf, data_of};
-ghost use Rattle.gateway_requests.specs.Body.{as_text, has_no_references, is_avro, known_level, level_in, level_of, object_of, text_in, text_of, whole_body};
+ghost use Rattle.spec_service.specs.Body.{as_text, has_no_references, is_avro, known_level, level_in, level_of, object_of, text_in, text_of, whole_body};
 ghost use Rattle.gateway_requests.specs.Steps.{Tells};
 
 use crate::Fault;
 use gateway_bodies::{BodyError, Kept, Members, read_members};
-use schema_registry::Level;
+use schema_registry::{Level, parse_level};
 use std::alloc::Global;
 
 /// Returns a body that has come whole. `BadRequest` where it was cut short.
@@ -113,7 +113,7 @@ pub(crate) fn text_of(alloc: Global, body: Option<&[u8]>) -> Result<String, Faul
 fn known_level(name: &str) -> Result<Level, Fault>
     ensures { result ≡ known_level name.now }
 {
-    match Level::parse(name) {
+    match parse_level(name) {
         Ok(level) => Ok(level),
         Err(_) => Err(Fault::BadLevel),
     }

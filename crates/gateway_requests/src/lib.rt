@@ -6,12 +6,10 @@
 
 mod action;
 mod answer;
-mod answer_bytes;
 mod asking;
 mod body;
 mod body_length;
 mod choosing;
-mod content_type;
 mod digits;
 mod fault;
 mod head;
@@ -25,17 +23,13 @@ mod read_once;
 mod replies;
 mod request;
 mod route;
-mod status;
-mod upstream_fault;
 
 pub use action::Action;
 pub use answer::Answer;
-pub use answer_bytes::AnswerBytes;
 pub use asking::{request_of, transcoding_of};
 pub use body::read_body;
 pub use body_length::content_length;
 pub use choosing::{Chosen, action_at, choose};
-pub use content_type::ContentType;
 pub use digits::{is_number, number_up_to};
 pub use fault::Fault;
 pub use head::{Front, read_head};
@@ -49,5 +43,4 @@ pub use replies::{
 };
 pub use request::Request;
 pub use route::{Route, Routes};
-pub use status::Status;
-pub use upstream_fault::UpstreamFault;
+pub use spec_service::{AnswerBytes, ContentType, Status, UpstreamFault};

@@ -1,7 +1,7 @@
 //! The parameters in a path: a subject, a version, an id.
 
 ghost use Rattle.std.specs.Prelude.{◌≡◌, string_bytes};
-ghost use Rattle.gateway_requests.specs.Parameters.{id_of, subject_of, version_of};
+ghost use Rattle.spec_service.specs.Parameters.{id_of, subject_of, version_of};
 ghost use Rattle.gateway_requests.specs.Steps.{Tells};
 
 use crate::{Fault, is_number, number_up_to};

@@ -2,7 +2,7 @@
 
 ghost use Rattle.std.specs.Prelude.{◌≡◌, ◌==◌, ◌≤◌, IsUtf8, length};
 ghost use Rattle.std.specs.List.{after_first, before_first, position_or_len};
-ghost use Rattle.gateway_requests.specs.Path.{path_of, segment};
+ghost use Rattle.spec_service.specs.Path.{path_of, segment};
 
 /// Returns the offset of the first such byte, or of the end.
 fn offset_of(byte: u8, text: &[u8]) -> usize

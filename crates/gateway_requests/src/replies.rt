@@ -5,9 +5,9 @@ ghost use Rattle.std.specs.Prelude.{◌≡◌, IfOk, codes, map, string_bytes};
 ghost use Rattle.serde_json.specs.Written.{compact_text};
 ghost use Rattle.serde_json.specs.View.{view};
 ghost use Rattle.serde_json.specs.Data.{member, no_members, object, string};
-ghost use Rattle.gateway_requests.specs.Replies.{compatibility_data, entry_data, fault_data, id_data, level_data, names_data, new_level_data, numbers_data, schema_data, whole};
+ghost use Rattle.spec_service.specs.Replies.{compatibility_data, entry_data, fault_data, id_data, level_data, names_data, new_level_data, numbers_data, schema_data, whole};
 
-use crate::fault::Fault;
+use crate::fault::{Fault, fault_message};
 use serde_json::{Value, json};
 use std::alloc::{AllocError, Global};
 
@@ -15,7 +15,7 @@ use std::alloc::{AllocError, Global};
 pub fn fault_text(alloc: Global, fault: Fault) -> Result<String, AllocError>
     ensures { IfOk result (λ text. string_bytes text ≡ compact_text (fault_data fault)) }
 {
-    let message = fault.message(alloc)?;
+    let message = fault_message(alloc, fault)?;
     let value = fault_value(alloc, fault.code(), &message)?;
     value.to_string(alloc)
 }

@@ -1,36 +1,16 @@
-//! The routes of the service, and the one that a path has.
+//! The route that a path has.
+
 ghost use Rattle.std.specs.Prelude.{◌≡◌, Some, IfErr, IfOk, IfSome};
 ghost use Rattle.matchit.specs.declared.error.InsertError.TheVariants.{OutOfMemory};
 ghost use Rattle.gateway_requests.specs.Paths.{IsPathOf};
-ghost use Rattle.gateway_requests.specs.Route.{IsFree, all_routes, route_of, with_route};
+ghost use Rattle.gateway_requests.specs.Route.{IsFree};
+ghost use Rattle.spec_service.specs.Route.{all_routes, route_of, with_route};
 ghost use Rattle.matchit.specs.Route.{parse_route};
 
 use matchit::{InsertError, Router};
+pub use spec_service::Route;
 use std::alloc::{AllocError, Global};
 use std::marker::Model;
-
-/// What a path names.
-#[derive(Clone, Copy, Debug, PartialEq, Eq, Drop)]
-pub enum Route {
-    /// All subjects.
-    Subjects,
-    /// One subject.
-    Subject,
-    /// The versions of a subject.
-    Versions,
-    /// One version of a subject.
-    Version,
-    /// The schema under an id.
-    Schema,
-    /// Whether a schema may follow a version of a subject.
-    Compatibility,
-    /// The level that holds where a subject has none of its own.
-    Config,
-    /// The level of a subject.
-    SubjectConfig,
-    /// The transcoding to the schema under an id.
-    Transcode,
-}
 
 /// All routes, to look a path up in.
 #[derive(Drop)]
@@ -40,7 +20,7 @@ pub struct Routes {
 
 impl Model for Routes {
     ghost use Rattle.std.specs.Prelude.{◌≡◌, ⊤};
-    ghost use Rattle.gateway_requests.specs.Route.{all_routes};
+    ghost use Rattle.spec_service.specs.Route.{all_routes};
 
     ghost Value = { ⊤ };
 

@@ -1,15 +1,16 @@
 -- The reply to what is asked over a connection, given to it, unless memory ran out.
 use Rattle.std.proofs.Common.{◌≡◌, ◌++◌, ℕ, List, IfOk, Result, Ok, Err, subst}
 use Rattle.std.specs.declared.alloc.AllocError.{AllocError}
-use Rattle.gateway_requests.specs.declared.answer_bytes.AnswerBytes.{AnswerBytes}
-use Rattle.gateway_requests.specs.declared.fault.Fault.{Fault}
-use Rattle.gateway_requests.specs.Request.{Request, request_of}
+use Rattle.spec_service.specs.declared.answer_bytes.AnswerBytes.{AnswerBytes}
+use Rattle.spec_service.specs.declared.fault.Fault.{Fault}
+use Rattle.spec_service.specs.Request.{Request}
+use Rattle.gateway_requests.specs.Request.{request_of}
 use Rattle.gateway_requests.specs.Steps.{Tells}
 use Rattle.gateway_requests.specs.declared.request.Request as rust
-use Rattle.gateway_front.specs.Answered.{IsAnswered}
-use Rattle.gateway_front.specs.Handing.{Handed, AsksOver}
-use Rattle.gateway_front.specs.declared.pending.Answered.{Answered}
-use Rattle.gateway_server.specs.Replying.{IsRepliedOver}
+use Rattle.spec_service.specs.Answered.{Answered, IsAnswered}
+use Rattle.spec_service.specs.Handing.{Handed}
+use Rattle.gateway_front.specs.Handing.{AsksOver}
+use Rattle.spec_service.specs.Replying.{IsRepliedOver}
 
 pub replied_over : (replies : Result Request Fault → List ℕ → ℕ → Type 0) (asking connection : Handed)
     (request : Result rust.Request Fault) (bytes : AnswerBytes) (status : ℕ) (result : Result Answered AllocError)

@@ -62,7 +62,7 @@ fn message_size(request: &Result<Request, Fault>) -> usize {
 
 impl<'a, 'r, U: Upstream> Model for Desk<'a, 'r, U> {
     ghost use Rattle.std.specs.Prelude.{◌≡◌};
-    ghost use Rattle.upstream_schemas.specs.Naming.{Names};
+    ghost use Rattle.spec_service.specs.UpstreamNaming.{Names};
 
     ghost Value = { Names };
 

@@ -6,8 +6,8 @@ ghost use Rattle.gateway_core.specs.Gates.{SaidNo};
 ghost use Rattle.gateway_core.specs.Transcoding.{IsWhyNone};
 ghost use Rattle.gateway.specs.Refusing.{Refuses};
 ghost use Rattle.gateway_upstream.specs.LookedUp.{IsWhyNotShown};
-ghost use Rattle.upstream_schemas.specs.Naming.{IsNamingOf};
-ghost use Rattle.gateway_server.specs.Replying.{IsRepliedByIds, IsRepliedTo};
+ghost use Rattle.spec_service.specs.UpstreamNaming.{IsNamingOf};
+ghost use Rattle.spec_service.specs.Replying.{IsRepliedByIds, IsRepliedTo};
 
 use gateway::{App, Gate, reply_to};
 use gateway_front::{Answered, PendingRequest};

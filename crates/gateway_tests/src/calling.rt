@@ -9,7 +9,7 @@ mod sessions;
 mod world;
 
 ghost use Rattle.std.specs.Prelude.{All};
-ghost use Rattle.schema_registry.specs.Receipt.{IsReceiptOf};
+ghost use Rattle.spec_registry.specs.Receipt.{IsReceiptOf};
 ghost use Rattle.session_pool.specs.Seats.{IsNewClient, IsNewWorker, Rests, RestsWorker};
 
 use crate::asking::{MESSAGE, REWRITTEN};

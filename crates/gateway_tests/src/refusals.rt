@@ -1,7 +1,7 @@
 //! Messages that find no slot, or whose gate says no.
 
 ghost use Rattle.std.specs.Prelude.{◌≡◌, All};
-ghost use Rattle.schema_registry.specs.Receipt.{IsReceiptOf};
+ghost use Rattle.spec_registry.specs.Receipt.{IsReceiptOf};
 ghost use Rattle.session_pool.specs.Seats.{IsNewClient, Rests};
 
 use crate::asking::{Exchange, FULL, MESSAGE, MESSAGE_REWRITTEN, NOT_FINISHED, is_answered};

@@ -3,7 +3,7 @@
 ghost use Rattle.std.specs.Prelude.{◌≡◌, ◌≤◌, IfOk, IfSome, length, vec_len};
 ghost use Rattle.gateway_requests.specs.Request.{request_of};
 ghost use Rattle.gateway_requests.specs.Sizes.{IsWithin};
-ghost use Rattle.gateway_requests.specs.declared.limits.TheConstants.{MOST_BODY};
+ghost use Rattle.spec_service.specs.declared.limits.TheConstants.{MOST_BODY};
 ghost use Rattle.session_pool.specs.Seats.{Rests};
 
 use crate::asking::{Exchange, is_answered};

@@ -1,7 +1,7 @@
 //! Schemas, and how they are registered.
 
 ghost use Rattle.std.specs.Prelude.{IfOk};
-ghost use Rattle.schema_registry.specs.Receipt.{IsReceiptOf};
+ghost use Rattle.spec_registry.specs.Receipt.{IsReceiptOf};
 
 use schema_registry::{Receipt, Refusal, SharedRegistry};
 use session_pool::SessionPool;

@@ -1,7 +1,7 @@
 //! Calls that are made again while a worker has the session.
 
 ghost use Rattle.std.specs.Prelude.{IfSome};
-ghost use Rattle.schema_registry.specs.Receipt.{IsReceiptOf};
+ghost use Rattle.spec_registry.specs.Receipt.{IsReceiptOf};
 ghost use Rattle.session_pool.specs.Seats.{IsPassOf, Rests};
 
 use crate::schemas::LIST_BYTES;

@@ -1,10 +1,10 @@
 -- What was looked up for a request. This project's own.
 use Rattle.std.specs.Prelude.{◌≡◌, ◌⊎◌, ℕ, nat_eq, if◌then◌else◌, List, [], ◌∷◌, Option, None, Some}
-use Rattle.gateway_requests.specs.declared.fault.Fault.{Fault}
-use Rattle.gateway_requests.specs.declared.fault.Fault.TheVariants as faults
-use Rattle.gateway_requests.specs.declared.upstream_fault.UpstreamFault.TheVariants.{Busy}
+use Rattle.spec_service.specs.declared.fault.Fault.{Fault}
+use Rattle.spec_service.specs.declared.fault.Fault.TheVariants as faults
+use Rattle.spec_service.specs.declared.upstream_fault.UpstreamFault.TheVariants.{Busy}
 use Rattle.upstream_schemas.specs.Asking.{IsWhyUnheld}
-use Rattle.upstream_schemas.specs.Naming.{Names}
+use Rattle.spec_service.specs.UpstreamNaming.{Names}
 
 -- what a look-up of an id came to: why its schema is not held, or none where it is
 pub record LookUp : Type 0 where

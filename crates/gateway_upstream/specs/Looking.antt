@@ -1,7 +1,8 @@
 -- Which schemas are looked up for a request. This project's own.
 use Rattle.std.specs.Prelude.{◌≡◌, ℕ, None, Some, Result, Ok, Err}
-use Rattle.gateway_requests.specs.declared.fault.Fault.{Fault}
-use Rattle.gateway_requests.specs.Request.{Request, Asks, Registers, AsksSchema, Transcodes, request_of}
+use Rattle.spec_service.specs.declared.fault.Fault.{Fault}
+use Rattle.spec_service.specs.Request.{Request, Asks, Registers, AsksSchema, Transcodes}
+use Rattle.gateway_requests.specs.Request.{request_of}
 use Rattle.gateway_requests.specs.declared.request.Request as rust
 use Rattle.gateway_upstream.specs.declared.looking.Needed.{Needed}
 use Rattle.wire_frames.specs.Envelope.{IsWriterOf}

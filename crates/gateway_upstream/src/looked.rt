@@ -3,12 +3,13 @@
 ghost use Rattle.std.specs.Prelude.{◌≡◌, [], IfErr, IfOk};
 ghost use Rattle.std.specs.Result.{result_err};
 ghost use Rattle.gateway_upstream.specs.LookedUp.{LookUp, with_look};
-ghost use Rattle.schema_registry.specs.Receipt.{IsReceiptOf};
+ghost use Rattle.spec_registry.specs.Receipt.{IsReceiptOf};
 ghost use Rattle.upstream_schemas.specs.Asking.{IsWhyUnheld};
-ghost use Rattle.upstream_schemas.specs.Naming.{IsNamingOf};
+ghost use Rattle.spec_service.specs.UpstreamNaming.{IsNamingOf};
 
 use gateway::{NamedSchema, Schemas};
 use gateway_requests::{Fault, UpstreamFault};
+use schema_registry::Receipt;
 use std::marker::Model;
 use upstream_schemas::{FoundSchema, Named, Upstream, UpstreamSchemas};
 
@@ -31,10 +32,10 @@ pub struct Looked<'s, 'r, U: Upstream> {
 impl<'s, 'r, U: Upstream> Model for Looked<'s, 'r, U> {
     ghost use Rattle.std.specs.Prelude.{◌≡◌, None, IfErr, IfOk, IfSome, option_map};
     ghost use Rattle.std.specs.Result.{result_err};
-    ghost use Rattle.schema_registry.specs.Receipt.{IsReceiptOf};
+    ghost use Rattle.spec_registry.specs.Receipt.{IsReceiptOf};
     ghost use Rattle.gateway_upstream.specs.LookedUp.{LookedUp, LookUp, looks_of};
     ghost use Rattle.upstream_schemas.specs.Asking.{IsWhyUnheld};
-    ghost use Rattle.upstream_schemas.specs.Naming.{IsNamingOf};
+    ghost use Rattle.spec_service.specs.UpstreamNaming.{IsNamingOf};
 
     ghost Value = { LookedUp };
 
@@ -54,7 +55,7 @@ impl<'s, 'r, U: Upstream> Model for Looked<'s, 'r, U> {
 }
 
 /// Returns a schema as one that an id names.
-fn named<U: Upstream>(found: FoundSchema<U>) -> NamedSchema<Named<U>>
+fn named<U: Upstream>(found: FoundSchema<U>) -> NamedSchema<Receipt, Named<U>>
     ensures receipt { result.receipt ≡ found.receipt }
     ensures seen { result.seen ≡ found.named }
 {
@@ -107,7 +108,7 @@ impl<'s, 'r, U: Upstream> Looked<'s, 'r, U> {
 impl<'s, 'r, U: Upstream> Schemas for Looked<'s, 'r, U> {
     ghost use Rattle.std.specs.Prelude.{◌≡◌};
     ghost use Rattle.gateway_upstream.specs.LookedUp.{IsWhyNotShown};
-    ghost use Rattle.upstream_schemas.specs.Naming.{IsNamingOf};
+    ghost use Rattle.spec_service.specs.UpstreamNaming.{IsNamingOf};
 
     type Seen = Named<U>;
 
@@ -117,7 +118,7 @@ impl<'s, 'r, U: Upstream> Schemas for Looked<'s, 'r, U> {
 
     ghost refuses = { λ l id fault. IsWhyNotShown U.heard U.kept l.looks id fault };
 
-    fn schema_of(&mut self, id: u32) -> Result<NamedSchema<Named<U>>, Fault> {
+    fn schema_of(&mut self, id: u32) -> Result<NamedSchema<Receipt, Named<U>>, Fault> {
         if let Some(look) = &mut self.first
             && look.id == id
         {

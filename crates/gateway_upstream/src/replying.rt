@@ -1,18 +1,19 @@
 //! The answer to a request whose schemas were looked up.
 
 ghost use Rattle.std.specs.Prelude.{◌≡◌, ◌++◌, ℕ, IfOk, List, Option, Result};
-ghost use Rattle.gateway_requests.specs.Request.{Request as Asked, request_of};
+ghost use Rattle.spec_service.specs.Request.{Request as Asked};
+ghost use Rattle.gateway_requests.specs.Request.{request_of};
 ghost use Rattle.gateway_requests.specs.Sizes.{IsWithin};
 ghost use Rattle.gateway_requests.specs.Steps.{Tells};
-ghost use Rattle.gateway_requests.specs.declared.limits.TheConstants.{MOST_BODY};
+ghost use Rattle.spec_service.specs.declared.limits.TheConstants.{MOST_BODY};
 ghost use Rattle.session_pool.specs.Seats.{Rests};
 ghost use Rattle.gateway_core.specs.Gates.{SaidNo};
-ghost use Rattle.gateway_core.specs.NamedServing.{IsNamedReply, IsNamedReplyTo};
+ghost use Rattle.spec_service.specs.NamedServing.{IsNamedReply, IsNamedReplyTo};
 ghost use Rattle.gateway_core.specs.Serving.{TellsRequest};
 ghost use Rattle.gateway_core.specs.Transcoding.{IsWhyNone};
 ghost use Rattle.gateway.specs.Refusing.{Refuses};
 ghost use Rattle.gateway_upstream.specs.LookedUp.{IsWhyNotShown};
-ghost use Rattle.upstream_schemas.specs.Naming.{IsNamingOf};
+ghost use Rattle.spec_service.specs.UpstreamNaming.{IsNamingOf};
 
 use crate::looked::Looked;
 use gateway::{App, Gate, NamedReply, reply_named};

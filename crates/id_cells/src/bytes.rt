@@ -1,7 +1,7 @@
 //! The bytes of an id.
 
 ghost use Rattle.std.specs.Prelude.{◌≡◌, ◌<◌, ◌≤◌};
-ghost use Rattle.id_cells.specs.Path.{byte_of};
+ghost use Rattle.spec_registry.specs.Path.{byte_of};
 ghost use Rattle.id_cells.specs.declared.limits.TheConstants.{BYTES, CELLS};
 
 use crate::limits::{BYTES, CELLS};

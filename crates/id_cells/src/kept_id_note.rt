@@ -1,7 +1,7 @@
 //! What a note of an id says, kept where threads share it.
 
 ghost use Rattle.std.specs.Prelude.{◌≡◌};
-ghost use Rattle.id_cells.specs.Path.{IsPathOf};
+ghost use Rattle.spec_registry.specs.Path.{IsPathOf};
 
 use crate::KeptNote;
 use crate::note::IdNote;
@@ -21,7 +21,8 @@ pub struct KeptIdNote<T> {
 }
 
 impl<T> Model for KeptIdNote<T> {
-    ghost use Rattle.id_cells.specs.Path.{Path, path_code};
+    ghost use Rattle.spec_registry.specs.Path.{Path};
+    ghost use Rattle.id_cells.specs.Path.{path_code};
 
     ghost Value = { Path T };
 

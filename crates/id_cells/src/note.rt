@@ -18,7 +18,8 @@ pub struct IdNote<T> {
 }
 
 impl<T> Model for IdNote<T> {
-    ghost use Rattle.id_cells.specs.Path.{Path, path_code};
+    ghost use Rattle.spec_registry.specs.Path.{Path};
+    ghost use Rattle.id_cells.specs.Path.{path_code};
 
     ghost Value = { Path T };
 

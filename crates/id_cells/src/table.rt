@@ -1,7 +1,7 @@
 //! A table of what is held for ids.
 
 ghost use Rattle.std.specs.Prelude.{◌≡◌, Some, IfOk, IfSome};
-ghost use Rattle.id_cells.specs.Path.{IsPathOf};
+ghost use Rattle.spec_registry.specs.Path.{IsPathOf};
 ghost use Rattle.id_cells.specs.declared.held_value.HeldValue.TheVariants.{Given};
 
 use crate::bytes::byte_of;

@@ -1,7 +1,7 @@
 //! Tests of a table: ids at the borders of bytes, the first value that stays, rows that are not made, and threads.
 
 ghost use Rattle.std.specs.Prelude.{◌≡◌, Some, IfSome};
-ghost use Rattle.id_cells.specs.Path.{IsPathOf};
+ghost use Rattle.spec_registry.specs.Path.{IsPathOf};
 
 use crate::bytes::byte_of;
 use crate::row::Row;

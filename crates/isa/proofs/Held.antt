@@ -3,8 +3,8 @@ use Rattle.std.proofs.Common.{replicate, ◌≡◌, ℕ, zero, suc, ◌+◌, ◌
 use Rattle.std.specs.Prelude.{nat_lt}
 use Rattle.std.proofs.lemmas.List.{length-map}
 use Rattle.spec_avro.specs.declared.limits.TheConstants.{MOST_OUTPUT}
-use Rattle.isa.specs.Lists.{total_length}
-use Rattle.isa.specs.State.{Blocks, Frame, Rec, Skip, SkipBlocks, Store, add, add_to_slot, append, empty_buffers, emptied, frames_size, frames_with, is_done, marked, miss, out_with, size_of, total}
+use Rattle.spec_machine.specs.Lengths.{total_length}
+use Rattle.spec_machine.specs.State.{Blocks, Frame, Rec, Skip, SkipBlocks, Store, add, add_to_slot, append, empty_buffers, emptied, frames_size, frames_with, is_done, marked, miss, out_with, size_of, total}
 
 -- as many frames, and no more bytes than the limit
 pub record Holds (old new : Store) : Type 0 where

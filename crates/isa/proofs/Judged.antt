@@ -5,17 +5,18 @@ use Rattle.std.specs.Option.{option_or}
 use Rattle.std.specs.List.{AllByRecursion, position_from}
 use Rattle.std.proofs.lemmas.Iterator.Adapters.{position_from-zero}
 use Rattle.spec_avro.specs.declared.mismatch.Mismatch.{Mismatch}
-use Rattle.isa.specs.declared.entry.Entry.{Entry}
-use Rattle.isa.specs.declared.entry.Entry.TheVariants as entries
-use Rattle.isa.specs.declared.instr.Instr.{Instr}
-use Rattle.isa.specs.declared.instr.Instr.TheVariants as op
-use Rattle.isa.specs.declared.limits.TheConstants.{MOST_ENTRIES}
-use Rattle.isa.specs.declared.program.ProgramError.{ProgramError}
-use Rattle.isa.specs.declared.program.ProgramError.TheVariants as errors
-use Rattle.isa.specs.declared.range.Sizes.{Sizes}
-use Rattle.isa.specs.Program.{Program}
-use Rattle.isa.specs.Range.{EntryIsInRange, InstrIsInRange, IsAddress, IsProgram, IsWithinLimits, MissIsInRange, sizes_of}
-use Rattle.isa.specs.Judging.{are_within, at_list, entry_is_in_range, first_empty, first_empty_from, first_error, first_out, first_out_from, first_out_in, instr_is_in_range, is_address, is_within_limits, miss_is_in_range}
+use Rattle.spec_machine.specs.declared.entry.Entry.{Entry}
+use Rattle.spec_machine.specs.declared.entry.Entry.TheVariants as entries
+use Rattle.spec_machine.specs.declared.instr.Instr.{Instr}
+use Rattle.spec_machine.specs.declared.instr.Instr.TheVariants as op
+use Rattle.spec_machine.specs.declared.limits.TheConstants.{MOST_ENTRIES}
+use Rattle.spec_machine.specs.declared.program_error.ProgramError.{ProgramError}
+use Rattle.spec_machine.specs.declared.program_error.ProgramError.TheVariants as errors
+use Rattle.spec_machine.specs.declared.sizes.Sizes.{Sizes}
+use Rattle.spec_machine.specs.Program.{Program}
+use Rattle.spec_machine.specs.Range.{EntryIsInRange, InstrIsInRange, IsAddress, IsProgram, IsWithinLimits, MissIsInRange, sizes_of}
+use Rattle.spec_machine.specs.Judging.{are_within, at_list, entry_is_in_range, first_empty, first_empty_from, first_error, first_out, first_out_from, first_out_in, instr_is_in_range, is_address, is_within_limits, miss_is_in_range}
+use Rattle.isa.specs.Laws.Plain.{le_is, lt_is, is_lt}
 
 both : (a b : Bool) → (a && b) ≡ true → (a ≡ true) × (b ≡ true)
 both true b h = (refl, h)
@@ -23,15 +24,6 @@ both false b h = absurd cc
 
 is_le : (a b : ℕ) → nat_le a b ≡ true → a ≤ b
 is_le a b h = grind arith
-
-le_is : (a b : ℕ) → a ≤ b → nat_le a b ≡ true
-le_is a b h = grind arith
-
-is_lt : (a b : ℕ) → nat_lt a b ≡ true → a < b
-is_lt a b h = grind arith
-
-lt_is : (a b : ℕ) → a < b → nat_lt a b ≡ true
-lt_is a b h = grind arith
 
 not_zero : (k : ℕ) → (suc k == 0) ≡ false
 not_zero k = grind arith

@@ -4,38 +4,33 @@ use Rattle.std.specs.Prelude.{nat_lt, slice_index_or, option_map}
 use Rattle.std.proofs.lemmas.List.{drop-append-le, take-append-le}
 use Rattle.spec_avro.specs.declared.meter.Meter.{Meter}
 use Rattle.spec_avro.specs.declared.malformed.MalformedKind.TheVariants.{BadBranch, BadEnum, Trailing}
-use Rattle.avro_bytes.specs.BlockDecoding.{next_item}
-use Rattle.avro_bytes.specs.Boolean.{boolean_at}
+use Rattle.spec_decoding.specs.BlockDecoding.{next_item}
+use Rattle.spec_decoding.specs.BooleanDecoding.{boolean_at}
 use Rattle.spec_avro.specs.Boolean.{boolean_byte}
-use Rattle.avro_bytes.specs.Decoding.{Decoding, Complete, Failed}
+use Rattle.spec_decoding.specs.Decoding.{Decoding, Complete, Failed}
 use Rattle.spec_avro.specs.Defect.{Malformed, Need}
-use Rattle.avro_bytes.specs.Length.{length_at}
+use Rattle.spec_decoding.specs.LengthDecoding.{length_at}
 use Rattle.spec_avro.specs.Number.{int_limit, long_limit}
-use Rattle.avro_bytes.specs.NumberDecoding.{number_at}
-use Rattle.avro_bytes.specs.Position.{position_at}
+use Rattle.spec_decoding.specs.NumberDecoding.{number_at}
+use Rattle.spec_decoding.specs.PositionDecoding.{position_at}
 use Rattle.spec_avro.specs.Shortest.{shortest}
-use Rattle.avro_bytes.specs.Walk.{first_walk}
+use Rattle.spec_decoding.specs.Walk.{first_walk}
 use Rattle.avro_bytes.specs.Laws.BlocksSame.{walk_steady}
 use Rattle.avro_bytes.specs.Laws.Booleans.{boolean_steady}
 use Rattle.avro_bytes.specs.Laws.Lengths.{length_steady}
 use Rattle.avro_bytes.specs.Laws.Numbers.{number_steady}
 use Rattle.avro_bytes.specs.Laws.Positions.{position_steady}
 use Rattle.spec_avro.specs.Outcome as outcomes
-use Rattle.isa.specs.declared.entry.Entry.TheVariants as entries
-use Rattle.isa.specs.declared.instr.Instr.{Instr}
-use Rattle.isa.specs.declared.instr.Instr.TheVariants as op
-use Rattle.isa.specs.declared.end.Trap.TheVariants.{NoBuffer}
-use Rattle.isa.specs.declared.limits.TheConstants.{MOST_CHUNK}
-use Rattle.isa.specs.Program.{Program, jumps_of, map_of}
-use Rattle.isa.specs.State.{Blocks, End, Frame, Out, Content, Rec, Skip, SkipBlocks, State, has_current, meter_of}
-use Rattle.isa.specs.Table.{Move, added, anything, begun, prefixed, ends_content, entered, finished, fixed, gathered, halt, if_current, moved, moves, next, next_of, only_text, or_miss, passed, pushed, reads, skip_next_of, stop, trap, wait}
-use Rattle.isa.specs.Row.{counted, kept, row, row_at, row_of, skipped}
-
-lt_false : (a b : ℕ) → nat_lt a b ≡ false → b ≤ a
-lt_false a b h = grind arith
-
-lt_no : (a b : ℕ) → b ≤ a → nat_lt a b ≡ false
-lt_no a b h = grind arith
+use Rattle.spec_machine.specs.declared.entry.Entry.TheVariants as entries
+use Rattle.spec_machine.specs.declared.instr.Instr.{Instr}
+use Rattle.spec_machine.specs.declared.instr.Instr.TheVariants as op
+use Rattle.spec_machine.specs.declared.trap.Trap.TheVariants.{NoBuffer}
+use Rattle.spec_machine.specs.declared.limits.TheConstants.{MOST_CHUNK}
+use Rattle.spec_machine.specs.Program.{Program, jumps_of, map_of}
+use Rattle.spec_machine.specs.State.{Blocks, End, Frame, Out, Content, Rec, Skip, SkipBlocks, State, has_current, meter_of}
+use Rattle.spec_machine.specs.Table.{Move, added, anything, begun, prefixed, ends_content, entered, finished, fixed, gathered, halt, if_current, moved, moves, next, next_of, only_text, or_miss, passed, pushed, reads, skip_next_of, stop, trap, wait}
+use Rattle.spec_machine.specs.Row.{counted, kept, row, row_at, row_of, skipped}
+use Rattle.isa.specs.Laws.Plain.{lt_false, lt_no}
 
 lt_more : (a b c : ℕ) → nat_lt a b ≡ true → b ≤ c → nat_lt a c ≡ true
 lt_more a b c h le = grind arith

@@ -1,11 +1,11 @@
 -- Operations, their codes and their instructions go with one another.
 use Rattle.std.proofs.Common.{◌≡◌, ℕ, zero, suc, ◌+◌, List, [], ◌∷◌, Some, refl, sym, ap, arith, slice_get, add-one}
-use Rattle.isa.specs.declared.instr.Instr.{Instr}
-use Rattle.isa.specs.declared.instr.Instr.TheVariants as instrs
-use Rattle.isa.specs.declared.operation.Operation.{Operation}
-use Rattle.isa.specs.declared.operation.Operation.TheVariants as op
-use Rattle.isa.specs.declared.operation.TheConstants.{OPERATIONS}
-use Rattle.isa.specs.Operation.{at_code, code_of, instr_of, operand_of, operation_of}
+use Rattle.spec_machine.specs.declared.instr.Instr.{Instr}
+use Rattle.spec_machine.specs.declared.instr.Instr.TheVariants as instrs
+use Rattle.spec_machine.specs.declared.operation.Operation.{Operation}
+use Rattle.spec_machine.specs.declared.operation.Operation.TheVariants as op
+use Rattle.spec_machine.specs.declared.operation.TheConstants.{OPERATIONS}
+use Rattle.spec_machine.specs.Operation.{at_code, code_of, instr_of, operand_of, operation_of}
 
 pub at_place : (code place : ℕ) → code ≡ place + 1 → at_code code ≡ slice_get OPERATIONS place
 at_place code place e = rw (e, add-one place) refl

@@ -3,45 +3,43 @@
 use Rattle.std.proofs.Common.{replicate, ◌≡◌, ◌⊎◌, inl, inr, ℕ, zero, suc, ◌+◌, ◌-◌, ◌≤◌, ◌<◌, Bool, true, false, cond, List, [], ◌∷◌, length, take, drop, Option, Some, None, Ok, Err, Result, refl, sym, ap, ◌∙◌, arith, pos, min}
 use Rattle.std.specs.Prelude.{nat_lt, nat_le, slice_index_or}
 use Rattle.std.specs.Str.{is_utf8}
-use Rattle.avro_bytes.specs.declared.fault.Fault.{Fault}
-use Rattle.avro_bytes.specs.declared.fault.Fault.TheVariants as fault
+use Rattle.spec_decoding.specs.declared.fault.Fault.{Fault}
+use Rattle.spec_decoding.specs.declared.fault.Fault.TheVariants as fault
 use Rattle.spec_avro.specs.declared.meter.Meter.{Meter}
 use Rattle.spec_avro.specs.declared.limits.TheConstants.{MOST_DEPTH, MOST_UNITS}
 use Rattle.spec_avro.specs.declared.malformed.MalformedKind.TheVariants.{BadBranch, BadEnum, TooDeep, Trailing}
 use Rattle.spec_avro.specs.Blocks.{joined}
-use Rattle.avro_bytes.specs.BlockDecoding.{next_item}
-use Rattle.avro_bytes.specs.Boolean.{boolean_at}
+use Rattle.spec_decoding.specs.BlockDecoding.{next_item}
+use Rattle.spec_decoding.specs.BooleanDecoding.{boolean_at}
 use Rattle.spec_avro.specs.Boolean.{boolean_byte}
-use Rattle.avro_bytes.specs.Decoding.{Decoding, Complete, Failed}
+use Rattle.spec_decoding.specs.Decoding.{Decoding, Complete, Failed}
 use Rattle.spec_avro.specs.Defect.{Malformed, Need}
-use Rattle.avro_bytes.specs.Length.{length_at}
-use Rattle.avro_bytes.specs.Meter.{opened_blocks, opened_record}
+use Rattle.spec_decoding.specs.LengthDecoding.{length_at}
+use Rattle.spec_decoding.specs.Opening.{opened_blocks, opened_record}
 use Rattle.spec_avro.specs.Number.{int_limit, long_limit}
-use Rattle.avro_bytes.specs.NumberDecoding.{number_at}
-use Rattle.avro_bytes.specs.Position.{position_at}
+use Rattle.spec_decoding.specs.NumberDecoding.{number_at}
+use Rattle.spec_decoding.specs.PositionDecoding.{position_at}
 use Rattle.spec_avro.specs.Shortest.{shortest}
-use Rattle.avro_bytes.specs.Walk.{Walk, first_walk}
+use Rattle.spec_decoding.specs.Walk.{Walk, first_walk}
 use Rattle.avro_bytes.specs.Laws.Meters.{was_opened}
 use Rattle.avro_bytes.specs.Laws.Walks.{item_meter, end_meter}
 use Rattle.spec_avro.specs.Outcome as outcomes
-use Rattle.isa.specs.declared.end.Trap.TheVariants.{BadSlot, NoBuffer, TooManyCalls}
-use Rattle.isa.specs.declared.entry.Entry.{Entry}
-use Rattle.isa.specs.declared.entry.Entry.TheVariants as entries
-use Rattle.isa.specs.declared.instr.Instr.{Instr}
-use Rattle.isa.specs.declared.instr.Instr.TheVariants as op
-use Rattle.isa.specs.declared.limits.TheConstants.{MOST_CALLS, MOST_CHUNK}
-use Rattle.isa.specs.Program.{Program, constant_of, jumps_of, map_of}
-use Rattle.isa.specs.State.{Blocks, End, Frame, Content, Rec, Skip, SkipBlocks, State, Store, has_current, meter_of, add, frames_size, size_of, miss, total, Out}
+use Rattle.spec_machine.specs.declared.trap.Trap.TheVariants.{BadSlot, NoBuffer, TooManyCalls}
+use Rattle.spec_machine.specs.declared.entry.Entry.{Entry}
+use Rattle.spec_machine.specs.declared.entry.Entry.TheVariants as entries
+use Rattle.spec_machine.specs.declared.instr.Instr.{Instr}
+use Rattle.spec_machine.specs.declared.instr.Instr.TheVariants as op
+use Rattle.spec_machine.specs.declared.limits.TheConstants.{MOST_CALLS, MOST_CHUNK}
+use Rattle.spec_machine.specs.Program.{Program, constant_of, jumps_of, map_of}
+use Rattle.spec_machine.specs.State.{Blocks, End, Frame, Content, Rec, Skip, SkipBlocks, State, Store, has_current, meter_of, add, frames_size, size_of, miss, total, Out}
 use Rattle.isa.specs.Bounds.{AreBounded, IsBounded}
-use Rattle.isa.specs.Table.{Move, added, anything, begun, close_record, prefixed, dropped, ends_content, entered, finished, fixed, gathered, halt, if_current, items_closed, leave, missed, moved, moves, next, next_of, only_text, opens, or_miss, passed, pushed, reads, return, select, skip_next_of, stop, trap, wait, with_frames}
-use Rattle.isa.specs.Row.{kept, row, row_at, skipped}
+use Rattle.spec_machine.specs.Table.{Move, added, anything, begun, close_record, prefixed, dropped, ends_content, entered, finished, fixed, gathered, halt, if_current, items_closed, leave, missed, moved, moves, next, next_of, only_text, opens, or_miss, passed, pushed, reads, return, select, skip_next_of, stop, trap, wait, with_frames}
+use Rattle.spec_machine.specs.Row.{kept, row, row_at, skipped}
 use Rattle.isa.proofs.Held.{Holds, add_holds, miss_holds, new_slots}
+use Rattle.isa.specs.Laws.Plain.{is_lt}
 
 not_le : (a b : ℕ) → nat_le a b ≡ false → b < a
 not_le a b h = grind arith
-
-is_lt : (a b : ℕ) → nat_lt a b ≡ true → a < b
-is_lt a b h = grind arith
 
 -- it goes on within the bounds, or only the end is set
 abbrev pub Steps : State → State → Type 0

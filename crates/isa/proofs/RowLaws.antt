@@ -1,10 +1,10 @@
 -- The laws of rows, from what holds of the row of each instruction.
 use Rattle.std.proofs.Common.{◌≡◌, ◌≢◌, inl, inr, ℕ, ◌+◌, Bool, true, List, Option, Some, None, refl, sym, ap, ◌∙◌, subst, arith, slice_get}
 use Rattle.std.specs.Prelude.{is_some, option_map}
-use Rattle.isa.specs.Program.{Program}
-use Rattle.isa.specs.State.{End, State, start}
+use Rattle.spec_machine.specs.Program.{Program}
+use Rattle.spec_machine.specs.State.{End, State, start}
 use Rattle.isa.specs.Bounds.{IsBounded}
-use Rattle.isa.specs.Row.{counted, row_at, row_of}
+use Rattle.spec_machine.specs.Row.{counted, row_at, row_of}
 use Rattle.isa.proofs.Proper.{Proper, Steps, at_proper}
 
 abbrev one_more : State → State

@@ -1,8 +1,8 @@
 -- One list after another.
 use Rattle.std.proofs.Common.{arith, ◌≡◌, ℕ, zero, suc, ◌+◌, ◌≤◌, ◌<◌, Bool, true, false, ◌&&◌, List, [], ◌∷◌, length, drop, Some, None, refl, sym, ap, ◌∙◌, slice_get, add-one}
 use Rattle.std.specs.Prelude.{nat_le, ◌==◌}
-use Rattle.isa.specs.Lists.{total_length}
-use Rattle.isa.specs.Judging.{first_empty_from, first_out, first_out_from, at_list, are_within}
+use Rattle.spec_machine.specs.Lengths.{total_length}
+use Rattle.spec_machine.specs.Judging.{first_empty_from, first_out, first_out_from, at_list, are_within}
 
 after : {A : Type 0} (xs : List A) (n : ℕ) (x : A) → slice_get xs n ≡ Some x → drop n xs ≡ x ∷ drop (suc n) xs
 after [] n x e = absurd cc

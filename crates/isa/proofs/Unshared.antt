@@ -3,7 +3,7 @@ use Rattle.std.proofs.Common.{◌≡◌, ◌-◌, ℕ, zero, suc, Bool, true, Li
 use Rattle.std.specs.List.{AllByRecursion}
 use Rattle.isa.specs.declared.lists.Stretch.{Stretch}
 use Rattle.isa.specs.Lists.{lists_in}
-use Rattle.isa.specs.Judging.{first_out, first_out_in}
+use Rattle.spec_machine.specs.Judging.{first_out, first_out_in}
 use Rattle.isa.proofs.Judged.{all_in, none_out_in}
 
 module _ {A : Type 0} (test : A → Bool) where

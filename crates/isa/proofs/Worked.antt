@@ -1,11 +1,11 @@
 -- The rows of worked programs come out as the table says.
 use Rattle.std.proofs.Common.{refl}
-use Rattle.avro_bytes.specs.Boolean.{boolean_at}
-use Rattle.avro_bytes.specs.Length.{length_at}
-use Rattle.avro_bytes.specs.NumberDecoding.{number_at, number_front}
+use Rattle.spec_decoding.specs.BooleanDecoding.{boolean_at}
+use Rattle.spec_decoding.specs.LengthDecoding.{length_at}
+use Rattle.spec_decoding.specs.NumberDecoding.{number_at, number_front}
 use Rattle.spec_avro.specs.Shortest as X
-use Rattle.isa.specs.State.{add}
-use Rattle.isa.specs.Row.{row_of}
+use Rattle.spec_machine.specs.State.{add}
+use Rattle.spec_machine.specs.Row.{row_of}
 use Rattle.isa.specs.Worked.{BooleanIsBad, LongIsTaken, TextIsBegun, rows}
 
 pub long_taken : LongIsTaken

@@ -2,8 +2,8 @@
 -- project's own.
 use Rattle.std.specs.Prelude.{◌≤◌, ℕ, length}
 use Rattle.spec_avro.specs.declared.limits.TheConstants.{MOST_DEPTH, MOST_UNITS, MOST_OUTPUT}
-use Rattle.isa.specs.declared.limits.TheConstants.{MOST_CALLS}
-use Rattle.isa.specs.State.{State, total}
+use Rattle.spec_machine.specs.declared.limits.TheConstants.{MOST_CALLS}
+use Rattle.spec_machine.specs.State.{State, total}
 
 -- no more frames, calls, units and bytes than the limits allow
 pub record AreBounded (frames calls units bytes : ℕ) : Type 0 where

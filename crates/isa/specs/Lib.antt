@@ -1,10 +1,5 @@
 pub mod Lists
 pub mod Program
-pub mod Range
-pub mod Judging
-pub mod State
-pub mod Table
-pub mod Row
 pub mod Bounds
-pub mod Operation
 pub mod Worked
+pub mod Laws

@@ -1,5 +1,5 @@
 -- Lists that lie in one piece of memory. This project's own.
-use Rattle.std.specs.Prelude.{ℕ, ◌+◌, ◌-◌, ◌≤◌, List, [], ◌∷◌, length, map, take, drop}
+use Rattle.std.specs.Prelude.{ℕ, ◌-◌, ◌≤◌, List, length, map, take, drop}
 use Rattle.std.specs.List.{AllByRecursion}
 use Rattle.isa.specs.declared.lists.Stretch.{Stretch}
 
@@ -17,8 +17,3 @@ pub record IsWithin (len : ℕ) (s : Stretch) : Type 0 where
 
 abbrev pub AreWithin : {A : Type 0} → List A → List Stretch → Type 0
 AreWithin items stretches = AllByRecursion (IsWithin (length items)) stretches
-
--- how many items all of them have, those that they share counted each time
-abbrev pub total_length : {A : Type 0} → List (List A) → ℕ
-total_length [] = 0
-total_length (list ∷ lists) = length list + total_length lists

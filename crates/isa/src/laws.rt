@@ -1,13 +1,13 @@
 //! Laws of the instruction table. They do nothing when they run.
 
 ghost use Rattle.std.specs.Prelude.{◌≡◌, ◌↔◌, ◌≢◌, ◌≤◌, ◌+◌, ◌++◌, ℕ, Bool, List, None, Some, is_some, length, true, false};
-ghost use Rattle.isa.specs.declared.instr.Instr.{Instr};
-ghost use Rattle.isa.specs.declared.operation.Operation.{Operation};
+ghost use Rattle.spec_machine.specs.declared.instr.Instr.{Instr};
+ghost use Rattle.spec_machine.specs.declared.operation.Operation.{Operation};
 ghost use Rattle.isa.specs.Bounds.{IsBounded};
-ghost use Rattle.isa.specs.Operation.{at_code, code_of, instr_of, operand_of, operation_of};
-ghost use Rattle.isa.specs.Program.{Program};
-ghost use Rattle.isa.specs.Row.{row_of};
-ghost use Rattle.isa.specs.State.{State, start};
+ghost use Rattle.spec_machine.specs.Operation.{at_code, code_of, instr_of, operand_of, operation_of};
+ghost use Rattle.spec_machine.specs.Program.{Program};
+ghost use Rattle.spec_machine.specs.Row.{row_of};
+ghost use Rattle.spec_machine.specs.State.{State, start};
 ghost use Rattle.isa.specs.Worked.{BooleanIsBad, LongIsTaken, TextIsBegun};
 
 /// The law that a state has an end or a row, where the input has ended.

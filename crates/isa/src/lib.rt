@@ -3,20 +3,17 @@
 //! The instruction table: what programs are, and what each row does to a state.
 #![tactic(auto)]
 
+mod coded;
 mod end;
-mod entry;
-mod instr;
 mod laws;
 mod limits;
 mod lists;
-mod operation;
 mod parts;
 mod program;
 mod range;
 
+pub use coded::operation_at;
 pub use end::{End, Trap};
-pub use entry::Entry;
-pub use instr::Instr;
 pub use laws::{
     operations_go_with_instructions_and_codes, row_or_end_is_there, row_stays_on_longer_input,
     row_that_ends_changes_nothing_else, rows_stay_within_bounds, worked_rows_come_out,
@@ -26,6 +23,6 @@ pub use limits::{
     MOST_SLOTS, MOST_SYMBOLS, MOST_TABLES, limits_are_these,
 };
 pub use lists::Lists;
-pub use operation::{OPERATIONS, Operation, Shape};
 pub use parts::Parts;
 pub use program::{Program, ProgramError};
+pub use spec_machine::{Entry, Instr, OPERATIONS, Operation, Shape};

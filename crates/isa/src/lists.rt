@@ -1,8 +1,8 @@
 //! Lists of lists in one piece of memory.
 
 ghost use Rattle.std.specs.Prelude.{◌≡◌, ◌<◌, ◌++◌, ◌∷◌, [], Bool, List, length, option_map, slice_get, slice_index_or, nat_le, None, Some, OnOk, OnErr};
-ghost use Rattle.isa.specs.Judging.{are_within, first_empty, first_out, first_out_in};
-ghost use Rattle.isa.specs.Lists.{total_length};
+ghost use Rattle.spec_machine.specs.Judging.{are_within, first_empty, first_out, first_out_in};
+ghost use Rattle.spec_machine.specs.Lengths.{total_length};
 
 use std::alloc::{AllocError, Global};
 use std::marker::Model;
@@ -12,6 +12,8 @@ use std::marker::Model;
 pub struct Stretch {
     from: usize,
     to: usize,
+    /// The index of the list that was pushed with these items. Only time depends on it.
+    first: usize,
 }
 
 /// A list of lists, in one piece of memory. Lists may share their items. Callers see it as the lists.
@@ -78,7 +80,8 @@ impl<T: Copy> Lists<T> {
         let from = self.items.len();
         self.items.extend_from_slice(list)?;
         let to = self.items.len();
-        self.stretches.push(Stretch { from, to })?;
+        let first = self.stretches.len();
+        self.stretches.push(Stretch { from, to, first })?;
         Ok(())
     }
 
@@ -99,6 +102,19 @@ impl<T: Copy> Lists<T> {
         let stretch = self.stretches[number];
         self.stretches.push(stretch)?;
         Ok(())
+    }
+
+    /// Returns the index of a list with the items of the list at an index: of the one whose items it shares, if it was
+    /// pushed again.
+    pub fn first_like(&self, number: usize) -> usize
+        requires { number < length self.now }
+        ensures { slice_get self.now result ≡ slice_get self.now number }
+    {
+        let Stretch { from, to, first } = self.stretches[number];
+        match self.stretches.get(first) {
+            Some(other) if other.from == from && other.to == to => first,
+            _ => number,
+        }
     }
 
     /// Returns the index of the first list that has no items; `None` where each has one.

@@ -1,9 +1,8 @@
 //! What a program is made of.
 
-use crate::entry::Entry;
-use crate::instr::Instr;
 use crate::lists::Lists;
 use avro_bytes::Mismatch;
+use spec_machine::{Entry, Instr};
 
 /// What a program is made of.
 #[derive(Debug, Drop)]

@@ -1,40 +1,18 @@
 //! A program, whose parts are in range and within the limits.
 
 ghost use Rattle.std.specs.Prelude.{◌≡◌, ◌↔◌, is_ok, length, slice_get, true};
-ghost use Rattle.isa.specs.Judging.{address_out_of_range, entry_out_of_range, first_error, first_out_of_range, instr_out_of_range, is_within_limits, judged, miss_out_of_range};
+ghost use Rattle.spec_machine.specs.Judging.{address_out_of_range, entry_out_of_range, first_error, first_out_of_range, instr_out_of_range, is_within_limits, judged, miss_out_of_range};
 ghost use Rattle.isa.specs.Program.{program_of};
-ghost use Rattle.isa.specs.Range.{IsProgram, sizes_of};
+ghost use Rattle.spec_machine.specs.Range.{IsProgram, sizes_of};
 
-use crate::entry::Entry;
-use crate::instr::Instr;
 use crate::limits::{MOST_CONSTANT_BYTES, MOST_ENTRIES, MOST_INSTRS, MOST_TABLES};
 use crate::lists::Lists;
 use crate::parts::Parts;
 use crate::range::{Sizes, first_out, first_out_in};
 use avro_bytes::Mismatch;
+pub use spec_machine::ProgramError;
+use spec_machine::{Entry, Instr};
 use std::marker::Model;
-use thiserror::Error;
-
-/// The first thing that keeps parts from being a program.
-#[derive(Clone, Copy, Debug, PartialEq, Eq, Error)]
-pub enum ProgramError {
-    #[error("there is no instruction")]
-    NoCode,
-    #[error("a limit is passed")]
-    TooLarge,
-    #[error("constant {0} is empty")]
-    EmptyConstant(usize),
-    /// A map, and which of its entries.
-    #[error("entry {1} of map {0} is out of range")]
-    Entry(usize, usize),
-    /// A jump table, and which of its addresses.
-    #[error("address {1} of jump table {0} is out of range")]
-    Address(usize, usize),
-    #[error("miss {0} is out of range")]
-    Miss(usize),
-    #[error("the operand of instruction {0} is out of range")]
-    Instr(usize),
-}
 
 /// A program, within all limits, whose instructions name what is there. Callers see it as its code and its tables.
 #[derive(Debug, Drop)]
@@ -43,8 +21,9 @@ pub struct Program {
 }
 
 impl Model for Program {
-    ghost use Rattle.isa.specs.Program.{Program, program_of};
-    ghost use Rattle.isa.specs.Range.{IsProgram};
+    ghost use Rattle.spec_machine.specs.Program.{Program};
+    ghost use Rattle.isa.specs.Program.{program_of};
+    ghost use Rattle.spec_machine.specs.Range.{IsProgram};
 
     ghost Value = { Program };
 

@@ -1,24 +1,14 @@
 //! Whether what refers to things by index refers to things that are there.
 
 ghost use Rattle.std.specs.Prelude.{◌≡◌, Bool};
-ghost use Rattle.isa.specs.declared.range.Sizes.{Sizes};
-ghost use Rattle.isa.specs.Judging.{entry_is_in_range, first_out, first_out_in, instr_is_in_range, is_address, miss_is_in_range};
+ghost use Rattle.spec_machine.specs.declared.sizes.Sizes.{Sizes};
+ghost use Rattle.spec_machine.specs.Judging.{entry_is_in_range, first_out, first_out_in, instr_is_in_range, is_address, miss_is_in_range};
 
-use crate::entry::Entry;
-use crate::instr::Instr;
 use crate::limits::{MOST_FIXED, MOST_NODES, MOST_SLOTS, MOST_SYMBOLS};
 use crate::lists::Lists;
 use avro_bytes::Mismatch;
-
-/// How many things of each kind a program has.
-#[derive(Clone, Copy, Debug)]
-pub struct Sizes {
-    pub code: usize,
-    pub constants: usize,
-    pub maps: usize,
-    pub jumps: usize,
-    pub misses: usize,
-}
+pub use spec_machine::Sizes;
+use spec_machine::{Entry, Instr};
 
 /// What refers to things by index.
 pub(crate) trait Ranged: Copy {

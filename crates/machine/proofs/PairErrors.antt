@@ -2,10 +2,10 @@
 use Rattle.std.proofs.Common.{ℕ, List, subst}
 use Rattle.std.specs.Prelude.{Err, Ok}
 use Rattle.spec_avro.specs.Node.{Node}
-use Rattle.avro_bytes.specs.declared.payload.Outcome as rust
-use Rattle.resolver.specs.Outcome.{Transcodes}
-use Rattle.resolver.specs.declared.transcoding.TranscodeError.{TranscodeError}
-use Rattle.resolver.specs.declared.transcoding.TranscodeError.TheVariants as refusals
+use Rattle.spec_avro.specs.declared.outcome.Outcome as rust
+use Rattle.spec_avro.specs.Transcoding.{Transcodes}
+use Rattle.spec_avro.specs.declared.transcode_error.TranscodeError.{TranscodeError}
+use Rattle.spec_avro.specs.declared.transcode_error.TranscodeError.TheVariants as refusals
 use Rattle.machine.specs.Pair.{Pair}
 use Rattle.machine.specs.Transcoding.{Makes, TranscodesPair, of_payload}
 

@@ -3,4 +3,3 @@ pub mod Pair
 pub mod Ending
 pub mod Transcoding
 pub mod Laws
-pub mod ProgramPair

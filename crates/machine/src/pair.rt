@@ -1,8 +1,8 @@
 //! The program of a pair of schemas, beside the schemas that it is of.
 
 ghost use Rattle.std.specs.Prelude.{◌≡◌, Some, None, IfErr, IfOk, false, true};
-ghost use Rattle.machine.specs.ProgramPair.{IsProgramOf};
-ghost use Rattle.program_definition.specs.Code.{code_of};
+ghost use Rattle.spec_sessions.specs.ProgramPair.{IsProgramOf};
+ghost use Rattle.spec_machine.specs.Code.{code_of};
 ghost use Rattle.program_compiler.specs.declared.error.CompileError.TheVariants.{ProgramTooLarge};
 
 use avro_schema::Schema;
@@ -23,8 +23,8 @@ impl Model for PairProgram {
     ghost use Rattle.std.specs.Prelude.{◌≡◌, Some};
     ghost use Rattle.std.specs.Coded.{codes};
     ghost use Rattle.avro_types.specs.DatumCode.{datum_coded};
-    ghost use Rattle.machine.specs.ProgramPair.{Pair};
-    ghost use Rattle.program_definition.specs.Code.{code_of};
+    ghost use Rattle.spec_sessions.specs.ProgramPair.{Pair};
+    ghost use Rattle.spec_machine.specs.Code.{code_of};
 
     ghost Value = { Pair };
 

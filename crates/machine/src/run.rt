@@ -1,11 +1,11 @@
 //! A run of a program on bytes that come in pieces.
 
 ghost use Rattle.std.specs.Prelude.{◌≡◌, ◌≤◌, ◌<◌, ◌+◌, ◌++◌, length, slice_get, IfErr, OnOk, OnErr, option_map, Some, false, true};
-ghost use Rattle.isa.specs.Row.{row_of};
-ghost use Rattle.program_definition.specs.Code.{code_of};
-ghost use Rattle.program_correctness.specs.Alone.{run_alone};
-ghost use Rattle.machine_stepper.specs.Contract.{GoesOn, OnlyAppends};
-ghost use Rattle.machine_stepper.specs.Memory.{MayGrow};
+ghost use Rattle.spec_machine.specs.Row.{row_of};
+ghost use Rattle.spec_machine.specs.Code.{code_of};
+ghost use Rattle.spec_machine.specs.Alone.{run_alone};
+ghost use Rattle.spec_machine.specs.Memory.{GoesOn, MayGrow};
+ghost use Rattle.machine_stepper.specs.Contract.{OnlyAppends};
 ghost use Rattle.machine_stepper.specs.Running.{end_of};
 ghost use Rattle.machine_stepper.specs.Slice.{IsWhy, Rows};
 ghost use Rattle.machine.specs.Ending.{LeadsToOutcome};

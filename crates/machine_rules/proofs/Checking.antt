@@ -11,10 +11,7 @@ use Rattle.machine_rules.specs.declared.text.TextCheck.{TextCheck}
 use Rattle.machine_rules.specs.declared.text.TextCheck.TheVariants as checks
 use Rattle.machine_rules.specs.Text.{EndsIn, IsCheck, check_of, is_asked}
 use Rattle.machine_rules.proofs.Characters.{broken-rest, cut-text, none-behind, none-in-nothing, nothing-faultless}
-
-pub none-of : {A : Type 0} (o : Option A) → is_some o ≡ false → o ≡ None
-none-of None e = refl
-none-of (Some x) e = absurd cc
+use Rattle.machine_rules.specs.Laws.Plain.{none-of}
 
 -- nothing, before any byte
 pub nothing-cut : EndsIn [] []

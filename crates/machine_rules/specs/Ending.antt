@@ -1,12 +1,12 @@
 -- How a run ends. All of this is this project's own.
 use Rattle.std.specs.Prelude.{◌≡◌, ℕ, Bool, List, length, Option, None}
-use Rattle.avro_bytes.specs.declared.fault.Fault.{Fault}
-use Rattle.avro_bytes.specs.declared.fault.Fault.TheVariants as fault
+use Rattle.spec_decoding.specs.declared.fault.Fault.{Fault}
+use Rattle.spec_decoding.specs.declared.fault.Fault.TheVariants as fault
 use Rattle.spec_avro.specs.Outcome.{Mismatched, OutputTooLarge}
 use Rattle.spec_avro.specs.Outcome as outcomes
-use Rattle.isa.specs.Program.{Program}
-use Rattle.isa.specs.State.{Out, State}
-use Rattle.isa.specs.Table.{stop, trap, wait}
+use Rattle.spec_machine.specs.Program.{Program}
+use Rattle.spec_machine.specs.State.{Out, State}
+use Rattle.spec_machine.specs.Table.{stop, trap, wait}
 use Rattle.machine_rules.specs.declared.ending.Verdict.{Verdict}
 use Rattle.machine_rules.specs.declared.ending.Verdict.TheVariants as verdicts
 

@@ -1,3 +1,4 @@
 pub mod Ending
 pub mod Chunks
 pub mod Text
+pub mod Laws

@@ -1,10 +1,10 @@
 //! How a run ends at a fault or where the program halts.
 
 ghost use Rattle.std.specs.Prelude.{◌≡◌, ◌≢◌};
-ghost use Rattle.avro_bytes.specs.declared.fault.Fault.TheVariants.{NoMemory};
-ghost use Rattle.isa.specs.Program.{miss_of};
-ghost use Rattle.isa.specs.State.{State};
-ghost use Rattle.isa.specs.Table.{finished, halt};
+ghost use Rattle.spec_decoding.specs.declared.fault.Fault.TheVariants.{NoMemory};
+ghost use Rattle.spec_machine.specs.Program.{miss_of};
+ghost use Rattle.spec_machine.specs.State.{State};
+ghost use Rattle.spec_machine.specs.Table.{finished, halt};
 ghost use Rattle.machine_rules.specs.Ending.{IsAt, refused, told};
 
 use avro_bytes::{Fault, MalformedKind, Mismatch, MismatchKind};

@@ -1,7 +1,7 @@
 //! The instruction at an address.
 
 ghost use Rattle.std.specs.Prelude.{◌≡◌, slice_get, Some, None, IfOk, IfErr, OnErr};
-ghost use Rattle.isa.specs.declared.end.Trap.TheVariants.{OffEnd};
+ghost use Rattle.spec_machine.specs.declared.trap.Trap.TheVariants.{OffEnd};
 
 use isa::{Instr, Program, Trap};
 

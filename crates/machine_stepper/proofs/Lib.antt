@@ -6,6 +6,7 @@ pub mod Stepping
 pub mod Slicing
 pub mod Longer
 mod Bulk
+pub mod Start
 pub mod Foresight
 pub mod WholePayload
 pub mod Crossing

@@ -1,6 +1,7 @@
 pub mod Running
 pub mod Contract
 pub mod Memory
+pub mod RowContract
 pub mod Slice
-pub mod Looking
+pub mod Start
 pub mod WholePayload

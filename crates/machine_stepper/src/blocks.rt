@@ -2,11 +2,10 @@
 
 #![tactic(auto, using(crate::proofs::Appending::goes_on, crate::proofs::Appending::no_more, crate::proofs::Appending::stays_open, crate::proofs::Appending::same_arena))]
 
-ghost use Rattle.std.specs.Prelude.{◌≡◌, ◌≢◌, ◌≤◌, ◌<◌, length, None};
-ghost use Rattle.isa.specs.declared.instr.Instr.TheVariants as op;
-ghost use Rattle.isa.specs.declared.limits.TheConstants.{MOST_INSTRS};
-ghost use Rattle.isa.specs.Row.{row};
-ghost use Rattle.machine_stepper.specs.Contract.{AppendsThese, OnlyAppends, Takes, closing_bytes};
+ghost use Rattle.std.specs.Prelude.{◌≢◌};
+ghost use Rattle.spec_machine.specs.declared.instr.Instr.TheVariants as op;
+ghost use Rattle.machine_stepper.specs.Contract.{AppendsThese, closing_bytes};
+ghost use Rattle.machine_stepper.specs.RowContract.{RowAfter, RowBefore};
 
 use crate::feed::Feed;
 use crate::machine::Machine;
@@ -18,15 +17,8 @@ use machine_store::Opening;
 impl Machine {
     /// Takes the row that opens an array or a map.
     pub(crate) fn blocks(&mut self, feed: &Feed<'_>) -> Step
-        requires runs { self.old.state.end ≡ None }
-        requires pc { self.old.state.pc < MOST_INSTRS }
-        requires within { self.old.state.pos ≤ length feed.now.input.now }
-        requires whole { self.old.state.content ≡ None }
-        ensures takes { Takes (row feed.now.program.now feed.now.input.now feed.now.ended op.Blocks self.old.state)
-            result self.old self.new }
-        ensures appends { OnlyAppends self.old self.new }
-        ensures within { self.new.state.pos ≤ length feed.now.input.now }
-        ensures whole { self.new.state.content ≡ None }
+        requires { RowBefore feed.now self.old }
+        ensures { RowAfter feed.now op.Blocks result self.old self.new }
     {
         match BlockWalk::begin(self.pos(), self.meter()) {
             Ok((walk, inside)) => self.open(Opening::Blocks(walk), inside),
@@ -36,15 +28,8 @@ impl Machine {
 
     /// Takes the row that opens an array or a map that is skipped.
     pub(crate) fn skip_blocks(&mut self, feed: &Feed<'_>) -> Step
-        requires runs { self.old.state.end ≡ None }
-        requires pc { self.old.state.pc < MOST_INSTRS }
-        requires within { self.old.state.pos ≤ length feed.now.input.now }
-        requires whole { self.old.state.content ≡ None }
-        ensures takes { Takes (row feed.now.program.now feed.now.input.now feed.now.ended op.SkipBlocks self.old.state)
-            result self.old self.new }
-        ensures appends { OnlyAppends self.old self.new }
-        ensures within { self.new.state.pos ≤ length feed.now.input.now }
-        ensures whole { self.new.state.content ≡ None }
+        requires { RowBefore feed.now self.old }
+        ensures { RowAfter feed.now op.SkipBlocks result self.old self.new }
     {
         match BlockWalk::begin(self.pos(), self.meter()) {
             Ok((walk, inside)) => self.open(Opening::SkipBlocks(walk), inside),
@@ -55,17 +40,10 @@ impl Machine {
     /// Takes the row before an item: it begins the next item, or closes the array or map and goes on at
     /// address `after`.
     pub(crate) fn next_item(&mut self, after: u32, feed: &Feed<'_>) -> Step
-        requires runs { self.old.state.end ≡ None }
-        requires pc { self.old.state.pc < MOST_INSTRS }
-        requires within { self.old.state.pos ≤ length feed.now.input.now }
-        requires whole { self.old.state.content ≡ None }
-        ensures takes { Takes (row feed.now.program.now feed.now.input.now feed.now.ended (op.Next after)
-            self.old.state) result self.old self.new }
-        ensures appends { OnlyAppends self.old self.new }
+        requires { RowBefore feed.now self.old }
+        ensures after { RowAfter feed.now (op.Next after) result self.old self.new }
         ensures joins { AppendsThese (closing_bytes self.old.state.store.frames self.new.state.store.frames)
             self.old self.new }
-        ensures within { self.new.state.pos ≤ length feed.now.input.now }
-        ensures whole { self.new.state.content ≡ None }
     {
         let Some(mut walk) = self.walk() else {
             return self.trap(Trap::NoFrame);
@@ -81,15 +59,8 @@ impl Machine {
     /// Takes the row before an item that is skipped: it begins the next item, or leaves the array or map and goes on
     /// at address `after`.
     pub(crate) fn skip_next(&mut self, after: u32, feed: &Feed<'_>) -> Step
-        requires runs { self.old.state.end ≡ None }
-        requires pc { self.old.state.pc < MOST_INSTRS }
-        requires within { self.old.state.pos ≤ length feed.now.input.now }
-        requires whole { self.old.state.content ≡ None }
-        ensures takes { Takes (row feed.now.program.now feed.now.input.now feed.now.ended (op.SkipNext after)
-            self.old.state) result self.old self.new }
-        ensures appends { OnlyAppends self.old self.new }
-        ensures within { self.new.state.pos ≤ length feed.now.input.now }
-        ensures whole { self.new.state.content ≡ None }
+        requires { RowBefore feed.now self.old }
+        ensures after { RowAfter feed.now (op.SkipNext after) result self.old self.new }
         ensures memory { result ≢ Step.NoMemory }
     {
         let Some(mut walk) = self.skip_walk() else {

@@ -5,13 +5,13 @@
 ghost use Rattle.std.specs.Prelude.{◌≡◌, ◌≤◌, ◌<◌, ◌+◌, ◌-◌, length, pos, [], OnOk, OnErr, Some, None, false};
 ghost use Rattle.spec_avro.specs.declared.limits.TheConstants.{MOST_CONTENT};
 ghost use Rattle.spec_avro.specs.Shortest.{shortest};
-ghost use Rattle.isa.specs.declared.limits.TheConstants.{MOST_INSTRS, MOST_CHUNK};
-ghost use Rattle.isa.specs.Table.{begun, prefixed, ends_content, fixed, if_current, moved, moves, next};
-ghost use Rattle.machine_stepper.specs.Contract.{AsksOf, HasRoom, asks, move_of, OnlyAppends, Stays, Takes};
+ghost use Rattle.spec_machine.specs.declared.limits.TheConstants.{MOST_INSTRS, MOST_CHUNK};
+ghost use Rattle.spec_machine.specs.Table.{begun, prefixed, ends_content, fixed, if_current, moved, moves, next};
+ghost use Rattle.machine_stepper.specs.Contract.{HasRoom, asks, move_of, OnlyAppends};
 ghost use Rattle.machine_stepper.specs.Memory.{MayAdd};
-ghost use Rattle.machine_rules.specs.Chunks.{HasMoved, content_of};
+ghost use Rattle.machine_stepper.specs.RowContract.{ContentAfter, ContentBefore, ContentKnown};
+ghost use Rattle.machine_rules.specs.Chunks.{content_of};
 ghost use Rattle.machine_rules.specs.Text.{IsCheck, Unasked, check_of, is_asked};
-ghost use Rattle.machine_stepper.specs.Running.{IsOn};
 
 use crate::feed::Feed;
 use crate::machine::Machine;
@@ -116,21 +116,16 @@ impl Machine {
         Step::Moved
     }
 
-    /// Moves a length that was read up to offset `to`, and begins the content, unless it is empty. `input` is read by
+    /// Moves a length that was read up to offset `to`, and begins the content, unless it is empty. `feed` is read by
     /// the clauses alone.
-    fn begin(&mut self, moving: Moving, len: usize, to: usize, input: &[u8]) -> Step
-        requires runs { self.old.state.end ≡ None }
-        requires pc { self.old.state.pc < MOST_INSTRS }
+    fn begin(&mut self, moving: Moving, len: usize, to: usize, feed: &Feed<'_>) -> Step
+        requires before { ContentBefore moving feed.now self.old }
         requires room { HasRoom moving self.old.state }
         requires few { len ≤ MOST_CONTENT }
-        requires within { to ≤ length input.now }
+        requires within { to ≤ length feed.now.input.now }
         requires whole { self.old.state.content ≡ None }
-        requires on { IsOn input.now self.old }
-        ensures takes { Takes (Some (begun (move_of moving) len to self.old.state)) result self.old self.new }
-        ensures appends { OnlyAppends self.old self.new }
-        ensures on { IsOn input.now self.new }
-        ensures stays { Stays moving self.old.state self.new }
-        ensures memory { result ≡ Step.NoMemory → MayAdd moving }
+        ensures { ContentAfter moving feed.now (Some (begun (move_of moving) len to self.old.state)) result self.old
+            self.new }
     {
         if self.put_length(moving, len).is_err() {
             return Step::NoMemory;
@@ -157,23 +152,15 @@ impl Machine {
         check: TextCheck,
         feed: &Feed<'_>,
     ) -> Step
-        requires runs { self.old.state.end ≡ None }
+        requires before { ContentBefore moving feed.now self.old }
         requires room { HasRoom moving self.old.state }
         requires there { self.old.state.pos + MOST_CHUNK ≤ length feed.now.input.now }
         requires left { MOST_CHUNK < content.left }
-        requires on { IsOn feed.now.input.now self.old }
-        requires content { HasMoved feed.now.input.now (self.old.state.pos + MOST_CHUNK) (check_of check) (content_of
-            content) }
-        requires asked { is_asked (check_of check) ≡ asks moving }
-        requires stood { AsksOf moving self.old.check self.old.state.content }
-        ensures takes { Takes (Some (moved feed.now.program.now feed.now.input.now feed.now.ended (move_of moving)
-            (content_of
-            content) MOST_CHUNK
-            self.old.state)) result self.old self.new }
-        ensures appends { OnlyAppends self.old self.new }
-        ensures on { IsOn feed.now.input.now self.new }
-        ensures stays { Stays moving self.old.state self.new }
-        ensures memory { result ≡ Step.NoMemory → MayAdd moving }
+        requires known { ContentKnown moving feed.now (self.old.state.pos + MOST_CHUNK) (check_of check)
+            (content_of content) }
+        ensures { ContentAfter moving feed.now
+            (Some (moved feed.now.program.now feed.now.input.now feed.now.ended (move_of moving) (content_of content)
+            MOST_CHUNK self.old.state)) result self.old self.new }
     {
         let pos = self.pos();
         let to = pos + MOST_CHUNK;
@@ -195,21 +182,13 @@ impl Machine {
         check: TextCheck,
         feed: &Feed<'_>,
     ) -> Step
-        requires runs { self.old.state.end ≡ None }
-        requires pc { self.old.state.pc < MOST_INSTRS }
+        requires before { ContentBefore moving feed.now self.old }
         requires room { HasRoom moving self.old.state }
         requires there { self.old.state.pos + content.left ≤ length feed.now.input.now }
-        requires on { IsOn feed.now.input.now self.old }
-        requires content { HasMoved feed.now.input.now self.old.state.pos (check_of check) (content_of content) }
-        requires asked { is_asked (check_of check) ≡ asks moving }
-        requires stood { AsksOf moving self.old.check self.old.state.content }
-        ensures takes { Takes
+        requires known { ContentKnown moving feed.now self.old.state.pos (check_of check) (content_of content) }
+        ensures { ContentAfter moving feed.now
             (ends_content feed.now.program.now feed.now.input.now feed.now.ended (move_of moving) (content_of content)
             self.old.state) result self.old self.new }
-        ensures appends { OnlyAppends self.old self.new }
-        ensures on { IsOn feed.now.input.now self.new }
-        ensures stays { Stays moving self.old.state self.new }
-        ensures memory { result ≡ Step.NoMemory → MayAdd moving }
     {
         let pos = self.pos();
         let to = pos + content.left;
@@ -253,20 +232,12 @@ impl Machine {
         check: TextCheck,
         feed: &Feed<'_>,
     ) -> Step
-        requires runs { self.old.state.end ≡ None }
-        requires pc { self.old.state.pc < MOST_INSTRS }
+        requires before { ContentBefore moving feed.now self.old }
         requires room { HasRoom moving self.old.state }
-        requires on { IsOn feed.now.input.now self.old }
-        requires content { HasMoved feed.now.input.now self.old.state.pos (check_of check) (content_of content) }
-        requires asked { is_asked (check_of check) ≡ asks moving }
-        requires stood { AsksOf moving self.old.check self.old.state.content }
-        ensures takes { Takes (moves feed.now.program.now feed.now.input.now feed.now.ended (move_of moving) (content_of
-            content)
+        requires known { ContentKnown moving feed.now self.old.state.pos (check_of check) (content_of content) }
+        ensures { ContentAfter moving feed.now
+            (moves feed.now.program.now feed.now.input.now feed.now.ended (move_of moving) (content_of content)
             self.old.state) result self.old self.new }
-        ensures appends { OnlyAppends self.old self.new }
-        ensures on { IsOn feed.now.input.now self.new }
-        ensures stays { Stays moving self.old.state self.new }
-        ensures memory { result ≡ Step.NoMemory → MayAdd moving }
     {
         match chunk_at(content, check, feed.input, self.pos()) {
             Ok(Chunk::Full(check)) => self.move_chunk(moving, content, check, feed),
@@ -277,24 +248,16 @@ impl Machine {
 
     /// Takes a row of a content that has its length before it.
     pub(crate) fn content(&mut self, moving: Moving, feed: &Feed<'_>) -> Step
-        requires runs { self.old.state.end ≡ None }
-        requires pc { self.old.state.pc < MOST_INSTRS }
+        requires before { ContentBefore moving feed.now self.old }
         requires room { HasRoom moving self.old.state }
-        requires on { IsOn feed.now.input.now self.old }
-        requires asked { AsksOf moving self.old.check self.old.state.content }
-        ensures takes { Takes
+        ensures { ContentAfter moving feed.now
             (prefixed feed.now.program.now feed.now.input.now feed.now.ended (move_of moving) self.old.state
-            self.old.state.content)
-            result self.old self.new }
-        ensures appends { OnlyAppends self.old self.new }
-        ensures on { IsOn feed.now.input.now self.new }
-        ensures stays { Stays moving self.old.state self.new }
-        ensures memory { result ≡ Step.NoMemory → MayAdd moving }
+            self.old.state.content) result self.old self.new }
     {
         match self.moving() {
             Some(content) => self.move_part(moving, content, self.check(), feed),
             None => match read_length(feed.input, self.pos(), self.meter()) {
-                Ok((len, to, _)) => self.begin(moving, len, to, feed.input),
+                Ok((len, to, _)) => self.begin(moving, len, to, feed),
                 Err(fault) => self.refuse(fault, feed),
             },
         }
@@ -302,19 +265,12 @@ impl Machine {
 
     /// Takes a row of a content of `size` bytes, without a length.
     pub(crate) fn fixed(&mut self, moving: Moving, size: usize, feed: &Feed<'_>) -> Step
-        requires runs { self.old.state.end ≡ None }
-        requires pc { self.old.state.pc < MOST_INSTRS }
+        requires before { ContentBefore moving feed.now self.old }
         requires room { HasRoom moving self.old.state }
-        requires on { IsOn feed.now.input.now self.old }
-        requires asked { AsksOf moving self.old.check self.old.state.content }
         requires plain { asks moving ≡ false }
-        ensures takes { Takes (fixed feed.now.program.now feed.now.input.now feed.now.ended (move_of moving) size
-            self.old.state
+        ensures { ContentAfter moving feed.now
+            (fixed feed.now.program.now feed.now.input.now feed.now.ended (move_of moving) size self.old.state
             self.old.state.content) result self.old self.new }
-        ensures appends { OnlyAppends self.old self.new }
-        ensures on { IsOn feed.now.input.now self.new }
-        ensures stays { Stays moving self.old.state self.new }
-        ensures memory { result ≡ Step.NoMemory → MayAdd moving }
     {
         match self.moving() {
             Some(content) => self.move_part(moving, content, self.check(), feed),
@@ -332,16 +288,10 @@ impl Machine {
     /// Takes a row of a content that has its length before it, and that is added. A trap where there is
     /// no current buffer.
     pub(crate) fn kept_content(&mut self, moving: Moving, feed: &Feed<'_>) -> Step
-        requires runs { self.old.state.end ≡ None }
-        requires pc { self.old.state.pc < MOST_INSTRS }
-        requires on { IsOn feed.now.input.now self.old }
-        requires asked { AsksOf moving self.old.check self.old.state.content }
-        ensures takes { Takes (if_current self.old.state.store.frames self.old.state (prefixed feed.now.program.now
-            feed.now.input.now feed.now.ended (move_of moving) self.old.state self.old.state.content)) result self.old
-            self.new }
-        ensures appends { OnlyAppends self.old self.new }
-        ensures on { IsOn feed.now.input.now self.new }
-        ensures stays { Stays moving self.old.state self.new }
+        requires { ContentBefore moving feed.now self.old }
+        ensures { ContentAfter moving feed.now (if_current self.old.state.store.frames self.old.state
+            (prefixed feed.now.program.now feed.now.input.now feed.now.ended (move_of moving) self.old.state
+            self.old.state.content)) result self.old self.new }
     {
         if !self.has_current() {
             return self.trap(Trap::NoBuffer);
@@ -351,16 +301,10 @@ impl Machine {
 
     /// Takes a row of a content of `size` bytes that is added. A trap where there is no current buffer.
     pub(crate) fn kept_fixed(&mut self, size: usize, feed: &Feed<'_>) -> Step
-        requires runs { self.old.state.end ≡ None }
-        requires pc { self.old.state.pc < MOST_INSTRS }
-        requires on { IsOn feed.now.input.now self.old }
-        requires asked { AsksOf Moving.Bytes self.old.check self.old.state.content }
-        ensures takes { Takes (if_current self.old.state.store.frames self.old.state (fixed feed.now.program.now
-            feed.now.input.now feed.now.ended
-            (move_of Moving.Bytes) size self.old.state self.old.state.content)) result self.old self.new }
-        ensures appends { OnlyAppends self.old self.new }
-        ensures on { IsOn feed.now.input.now self.new }
-        ensures stays { Stays Moving.Bytes self.old.state self.new }
+        requires { ContentBefore Moving.Bytes feed.now self.old }
+        ensures { ContentAfter Moving.Bytes feed.now (if_current self.old.state.store.frames self.old.state
+            (fixed feed.now.program.now feed.now.input.now feed.now.ended (move_of Moving.Bytes) size self.old.state
+            self.old.state.content)) result self.old self.new }
     {
         if !self.has_current() {
             return self.trap(Trap::NoBuffer);

@@ -2,11 +2,9 @@
 
 #![tactic(auto, using(crate::proofs::Appending::finishes, crate::proofs::Appending::same_arena))]
 
-ghost use Rattle.std.specs.Prelude.{◌≡◌, ◌≢◌, ◌≤◌, ◌<◌, length, Some, None};
-ghost use Rattle.isa.specs.declared.instr.Instr.TheVariants as op;
-ghost use Rattle.isa.specs.declared.limits.TheConstants.{MOST_INSTRS};
-ghost use Rattle.isa.specs.Row.{row};
-ghost use Rattle.machine_stepper.specs.Contract.{OnlyAppends, Takes};
+ghost use Rattle.std.specs.Prelude.{◌≢◌};
+ghost use Rattle.spec_machine.specs.declared.instr.Instr.TheVariants as op;
+ghost use Rattle.machine_stepper.specs.RowContract.{RowAfter, RowBefore};
 
 use crate::feed::Feed;
 use crate::machine::Machine;
@@ -16,15 +14,8 @@ use isa::{MOST_CALLS, Trap};
 impl Machine {
     /// Takes the row of a miss: marks it if it is the first. `feed` is read by the clauses alone.
     pub(crate) fn tell_miss(&mut self, miss: u32, feed: &Feed<'_>) -> Step
-        requires runs { self.old.state.end ≡ None }
-        requires pc { self.old.state.pc < MOST_INSTRS }
-        requires within { self.old.state.pos ≤ length feed.now.input.now }
-        requires whole { self.old.state.content ≡ None }
-        ensures takes { Takes (row feed.now.program.now feed.now.input.now feed.now.ended (op.Miss miss) self.old.state)
-            result self.old self.new }
-        ensures appends { OnlyAppends self.old self.new }
-        ensures within { self.new.state.pos ≤ length feed.now.input.now }
-        ensures whole { self.new.state.content ≡ None }
+        requires { RowBefore feed.now self.old }
+        ensures after { RowAfter feed.now (op.Miss miss) result self.old self.new }
         ensures memory { result ≢ Step.NoMemory }
     {
         self.miss(miss);
@@ -34,14 +25,8 @@ impl Machine {
     /// Takes the row of a call, which goes on at the routine's address. A trap where there are too many calls. `feed`
     /// is read by the clauses alone.
     pub(crate) fn call(&mut self, address: u32, feed: &Feed<'_>) -> Step
-        requires pc { self.old.state.pc < MOST_INSTRS }
-        requires within { self.old.state.pos ≤ length feed.now.input.now }
-        requires whole { self.old.state.content ≡ None }
-        ensures takes { Takes (row feed.now.program.now feed.now.input.now feed.now.ended (op.Call address)
-            self.old.state) result self.old self.new }
-        ensures appends { OnlyAppends self.old self.new }
-        ensures within { self.new.state.pos ≤ length feed.now.input.now }
-        ensures whole { self.new.state.content ≡ None }
+        requires { RowBefore feed.now self.old }
+        ensures { RowAfter feed.now (op.Call address) result self.old self.new }
     {
         if self.calls() >= MOST_CALLS {
             return self.trap(Trap::TooManyCalls);
@@ -51,14 +36,8 @@ impl Machine {
 
     /// Takes the row of a return from a call. A trap where no call is open. `feed` is read by the clauses alone.
     pub(crate) fn return_from_call(&mut self, feed: &Feed<'_>) -> Step
-        requires pc { self.old.state.pc < MOST_INSTRS }
-        requires within { self.old.state.pos ≤ length feed.now.input.now }
-        requires whole { self.old.state.content ≡ None }
-        ensures takes { Takes (row feed.now.program.now feed.now.input.now feed.now.ended op.Return self.old.state)
-            result self.old self.new }
-        ensures appends { OnlyAppends self.old self.new }
-        ensures within { self.new.state.pos ≤ length feed.now.input.now }
-        ensures whole { self.new.state.content ≡ None }
+        requires { RowBefore feed.now self.old }
+        ensures after { RowAfter feed.now op.Return result self.old self.new }
         ensures memory { result ≢ Step.NoMemory }
     {
         match self.pop_call() {
@@ -69,14 +48,8 @@ impl Machine {
 
     /// Takes the row of a jump to an address. `feed` is read by the clauses alone.
     pub(crate) fn jump_to(&mut self, address: u32, feed: &Feed<'_>) -> Step
-        requires pc { self.old.state.pc < MOST_INSTRS }
-        requires within { self.old.state.pos ≤ length feed.now.input.now }
-        requires whole { self.old.state.content ≡ None }
-        ensures takes { Takes (row feed.now.program.now feed.now.input.now feed.now.ended (op.Jump address)
-            self.old.state) result self.old self.new }
-        ensures appends { OnlyAppends self.old self.new }
-        ensures within { self.new.state.pos ≤ length feed.now.input.now }
-        ensures whole { self.new.state.content ≡ None }
+        requires { RowBefore feed.now self.old }
+        ensures after { RowAfter feed.now (op.Jump address) result self.old self.new }
         ensures memory { result ≢ Step.NoMemory }
     {
         self.jump(address as usize, self.pos())
@@ -84,14 +57,8 @@ impl Machine {
 
     /// Takes the row of the halt: ends the run, or waits where more bytes may come.
     pub(crate) fn halt(&mut self, feed: &Feed<'_>) -> Step
-        requires pc { self.old.state.pc < MOST_INSTRS }
-        requires within { self.old.state.pos ≤ length feed.now.input.now }
-        requires whole { self.old.state.content ≡ None }
-        ensures takes { Takes (row feed.now.program.now feed.now.input.now feed.now.ended op.Halt self.old.state) result
-            self.old self.new }
-        ensures appends { OnlyAppends self.old self.new }
-        ensures within { self.new.state.pos ≤ length feed.now.input.now }
-        ensures whole { self.new.state.content ≡ None }
+        requires { RowBefore feed.now self.old }
+        ensures { RowAfter feed.now op.Halt result self.old self.new }
     {
         let verdict = self
             .ending(feed)

@@ -1,7 +1,7 @@
 //! The law of machines. It does nothing when it runs.
 
 ghost use Rattle.std.specs.Prelude.{ℕ, List, ◌++◌};
-ghost use Rattle.isa.specs.Program.{Program};
+ghost use Rattle.spec_machine.specs.Program.{Program};
 ghost use Rattle.machine_stepper.specs.Running.{IsOn, IsUnder, Running, start};
 
 /// The law that a new machine is under every program and on every input, and that a machine which is on an input is on

@@ -3,17 +3,18 @@
 #![tactic(auto, using(crate::proofs::Appending::goes_on, crate::proofs::Appending::same_arena))]
 
 ghost use Rattle.std.specs.Prelude.{◌≡◌, ◌≢◌, ◌≤◌, ◌<◌, ◌+◌, ℕ, [], ◌∷◌, ◌++◌, length, is_some, option_to_list, OnOk, OnErr, Some, None, false, true};
-ghost use Rattle.avro_bytes.specs.declared.fault.Fault.TheVariants.{NoMemory};
+ghost use Rattle.spec_decoding.specs.declared.fault.Fault.TheVariants.{NoMemory};
 ghost use Rattle.spec_avro.specs.declared.meter.Meter.{Meter};
-ghost use Rattle.isa.specs.declared.limits.TheConstants.{MOST_INSTRS};
-ghost use Rattle.isa.specs.State.{has_current, meter_of};
+ghost use Rattle.spec_machine.specs.declared.limits.TheConstants.{MOST_INSTRS};
+ghost use Rattle.spec_machine.specs.State.{has_current, meter_of};
 ghost use Rattle.avro_bytes.specs.Shortest.{IsTight};
 ghost use Rattle.spec_avro.specs.Shortest.{shortest};
-ghost use Rattle.isa.specs.Table.{added, next, stop, trap};
+ghost use Rattle.spec_machine.specs.Table.{added, next, stop, trap};
 ghost use Rattle.machine_rules.specs.declared.ending.Verdict.TheVariants.{Done};
 ghost use Rattle.machine_rules.specs.Ending.{refused, told};
 ghost use Rattle.machine_store.specs.Buffers.{is_front};
 ghost use Rattle.machine_stepper.specs.Contract.{OnlyAppends, Takes};
+ghost use Rattle.machine_stepper.specs.RowContract.{HasNext, LeadsTo};
 ghost use Rattle.machine_stepper.specs.Running.{end_of};
 
 use crate::ended::Ended;
@@ -162,7 +163,7 @@ impl Machine {
     /// Ends the run with a trap.
     pub(crate) fn trap(&mut self, trap: Trap) -> Step
         ensures step { result ≡ Step.Moved }
-        ensures stopped { Rattle.isa.specs.Table.trap trap self.old.state ≡ Some self.new.state }
+        ensures stopped { Rattle.spec_machine.specs.Table.trap trap self.old.state ≡ Some self.new.state }
         ensures kept { self.new ≡ record self.old { state = self.new.state } }
     {
         self.stop(End::Trap(trap))
@@ -325,13 +326,10 @@ impl Machine {
 
     /// Appends bytes to the current buffer, and goes on at the next instruction, with the bytes up to offset `to` read.
     pub(crate) fn move_bytes(&mut self, bytes: &[u8], to: usize) -> Step
-        requires runs { self.old.state.end ≡ None }
-        requires pc { self.old.state.pc < MOST_INSTRS }
+        requires before { HasNext self.old }
         requires room { has_current self.old.state.store.frames ≡ true }
-        ensures takes { Takes (Some (next to (added bytes.now self.old.state))) result self.old self.new }
-        ensures appends { OnlyAppends self.old self.new }
+        ensures after { LeadsTo (next to (added bytes.now self.old.state)) result self.old self.new }
         ensures within { (len : ℕ) → self.old.state.pos ≤ len → to ≤ len → self.new.state.pos ≤ len }
-        ensures content { self.new.state.content ≡ self.old.state.content }
     {
         if self.add(bytes).is_err() {
             return Step::NoMemory;
@@ -342,14 +340,11 @@ impl Machine {
     /// Appends the shortest encoding of `number`, and goes on as `move_bytes` does. `spelling` is the encoding that
     /// was read; it is appended itself if it is the shortest.
     pub(crate) fn move_number(&mut self, number: i64, spelling: &[u8], to: usize) -> Step
-        requires runs { self.old.state.end ≡ None }
-        requires pc { self.old.state.pc < MOST_INSTRS }
+        requires before { HasNext self.old }
         requires room { has_current self.old.state.store.frames ≡ true }
         requires tight { IsTight spelling.now → spelling.now ≡ shortest number }
-        ensures takes { Takes (Some (next to (added (shortest number) self.old.state))) result self.old self.new }
-        ensures appends { OnlyAppends self.old self.new }
+        ensures after { LeadsTo (next to (added (shortest number) self.old.state)) result self.old self.new }
         ensures within { (len : ℕ) → self.old.state.pos ≤ len → to ≤ len → self.new.state.pos ≤ len }
-        ensures content { self.new.state.content ≡ self.old.state.content }
     {
         if self.add_spelled(number, spelling).is_err() {
             return Step::NoMemory;

@@ -4,11 +4,11 @@
 
 ghost use Rattle.std.specs.Prelude.{◌≡◌, ◌≢◌, ◌≤◌, ◌<◌, ◌+◌, [], length, is_some, IfOk, Some, true};
 ghost use Rattle.spec_avro.specs.declared.limits.TheConstants.{MOST_DEPTH};
-ghost use Rattle.isa.specs.declared.limits.TheConstants.{MOST_INSTRS};
-ghost use Rattle.isa.specs.Table.{missed, next, pushed, with_frames};
+ghost use Rattle.spec_machine.specs.Table.{missed, next, pushed, with_frames};
 ghost use Rattle.machine_store.specs.Frames.{FewSlots, HasSlot, frame_of, has_current_below, is_skip, is_skipped, skip_walk_of, slots_of, walk_of};
 ghost use Rattle.machine_store.specs.Store.{close_blocks, close_record, leave, next_item, next_skipped, select};
 ghost use Rattle.machine_stepper.specs.Contract.{AppendsThese, OnlyAppends, Takes, closing_bytes};
+ghost use Rattle.machine_stepper.specs.RowContract.{HasNext, LeadsTo};
 
 use crate::machine::Machine;
 use crate::step::Step;
@@ -77,16 +77,13 @@ impl Machine {
 
     /// Opens a frame, inside which there are as many units as `inside` says, and goes on at the next instruction.
     pub(crate) fn open(&mut self, opening: Opening, inside: Meter) -> Step
-        requires runs { self.old.state.end ≡ None }
-        requires pc { self.old.state.pc < MOST_INSTRS }
+        requires before { HasNext self.old }
         requires few { FewSlots opening }
         requires deep { length self.old.state.store.frames < MOST_DEPTH }
         requires units { self.old.state.units ≤ inside.units }
-        ensures takes { Takes (Some (next self.old.state.pos (pushed (frame_of opening) inside self.old.state))) result
+        ensures after { LeadsTo (next self.old.state.pos (pushed (frame_of opening) inside self.old.state)) result
             self.old self.new }
-        ensures appends { OnlyAppends self.old self.new }
         ensures pos { self.new.state.pos ≡ self.old.state.pos }
-        ensures content { self.new.state.content ≡ self.old.state.content }
     {
         if self.store.open(opening, inside.units).is_err() {
             return Step::NoMemory;
@@ -97,14 +94,12 @@ impl Machine {
 
     /// Selects a slot of the newest record, and goes on at the next instruction.
     pub(crate) fn select(&mut self, slot: usize) -> Step
-        requires runs { self.old.state.end ≡ None }
-        requires pc { self.old.state.pc < MOST_INSTRS }
+        requires before { HasNext self.old }
         requires there { HasSlot slot (slots_of self.old.state.store.frames) }
-        ensures takes { Takes (Some (next self.old.state.pos
-            (with_frames (select slot self.old.state.store.frames) self.old.state))) result self.old self.new }
-        ensures appends { OnlyAppends self.old self.new }
+        ensures after { LeadsTo
+            (next self.old.state.pos (with_frames (select slot self.old.state.store.frames) self.old.state)) result
+            self.old self.new }
         ensures pos { self.new.state.pos ≡ self.old.state.pos }
-        ensures content { self.new.state.content ≡ self.old.state.content }
         ensures memory { result ≢ Step.NoMemory }
     {
         self.store.select(slot);
@@ -114,16 +109,13 @@ impl Machine {
 
     /// Closes the newest record, and goes on at the next instruction.
     pub(crate) fn close_record(&mut self) -> Step
-        requires runs { self.old.state.end ≡ None }
-        requires pc { self.old.state.pc < MOST_INSTRS }
+        requires before { HasNext self.old }
         requires record { is_some (slots_of self.old.state.store.frames) ≡ true }
         requires below { has_current_below self.old.state.store.frames ≡ true }
-        ensures takes { Takes (Some (next self.old.state.pos (record self.old.state
-            { store = close_record self.old.state.store.frames self.old.state.store }))) result self.old self.new }
-        ensures appends { OnlyAppends self.old self.new }
+        ensures after { LeadsTo (next self.old.state.pos (record self.old.state
+            { store = close_record self.old.state.store.frames self.old.state.store })) result self.old self.new }
         ensures joins { AppendsThese [] self.old self.new }
         ensures pos { self.new.state.pos ≡ self.old.state.pos }
-        ensures content { self.new.state.content ≡ self.old.state.content }
     {
         if self.store.close_record().is_err() {
             return Step::NoMemory;
@@ -145,8 +137,7 @@ impl Machine {
     /// Goes on at the next item of the newest array or map, with the bytes up to offset `to` read.
     #[tactic(auto, using(crate::proofs::Appending::next_many, crate::proofs::Appending::same_arena))]
     pub(crate) fn gather(&mut self, walk: BlockWalk, to: usize, inside: Meter) -> Step
-        requires runs { self.old.state.end ≡ None }
-        requires pc { self.old.state.pc < MOST_INSTRS }
+        requires before { HasNext self.old }
         requires blocks { is_some (walk_of self.old.state.store.frames) ≡ true }
         requires units { self.old.state.units < inside.units }
         ensures step { result ≡ Step.Moved }
@@ -164,8 +155,7 @@ impl Machine {
 
     /// Goes on at the next item of the newest array or map, which is skipped, with the bytes up to offset `to` read.
     pub(crate) fn pass(&mut self, walk: BlockWalk, to: usize, inside: Meter) -> Step
-        requires runs { self.old.state.end ≡ None }
-        requires pc { self.old.state.pc < MOST_INSTRS }
+        requires before { HasNext self.old }
         requires blocks { is_some (skip_walk_of self.old.state.store.frames) ≡ true }
         requires units { self.old.state.units ≤ inside.units }
         ensures step { result ≡ Step.Moved }

@@ -6,10 +6,10 @@ use Rattle.spec_avro.specs.Blocks.{joined}
 use Rattle.spec_avro.specs.Shortest.{shortest, shortest_groups}
 use Rattle.spec_avro.specs.Written.{block_count}
 use Rattle.spec_avro.specs.declared.limits.TheConstants.{MOST_OUTPUT}
-use Rattle.isa.specs.Lists.{total_length}
-use Rattle.isa.specs.State as state
-use Rattle.isa.specs.State.{Store, add, append, empty_buffers, emptied, frames_size, is_done, total}
-use Rattle.isa.specs.Table.{items_closed}
+use Rattle.spec_machine.specs.Lengths.{total_length}
+use Rattle.spec_machine.specs.State as state
+use Rattle.spec_machine.specs.State.{Store, add, append, empty_buffers, emptied, frames_size, is_done, total}
+use Rattle.spec_machine.specs.Table.{items_closed}
 use Rattle.machine_store.specs.declared.buffers.TargetBuffer.{TargetBuffer}
 use Rattle.machine_store.specs.declared.buffers.TargetBuffer.TheVariants as places
 use Rattle.machine_store.specs.declared.store.Frame.{Frame}

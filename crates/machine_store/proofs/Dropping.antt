@@ -5,9 +5,9 @@ use Rattle.std.specs.Prelude.{is_some}
 use Rattle.std.proofs.lemmas.List.{get_or-map, get_or-take, length-map}
 use Rattle.std.proofs.Math.Seq.{take-set-lt}
 use Rattle.spec_avro.specs.declared.limits.TheConstants.{MOST_OUTPUT}
-use Rattle.isa.specs.Lists.{total_length}
-use Rattle.isa.specs.State as state
-use Rattle.isa.specs.State.{Store, add, emptied, is_done, total}
+use Rattle.spec_machine.specs.Lengths.{total_length}
+use Rattle.spec_machine.specs.State as state
+use Rattle.spec_machine.specs.State.{Store, add, emptied, is_done, total}
 use Rattle.machine_store.specs.declared.buffers.TargetBuffer.{TargetBuffer}
 use Rattle.machine_store.specs.declared.buffers.TargetBuffer.TheVariants as places
 use Rattle.machine_store.specs.declared.segment.Segment.{Segment}

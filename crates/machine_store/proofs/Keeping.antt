@@ -4,9 +4,9 @@ use Rattle.std.specs.Prelude.{Result, Ok, Err, OnErr, OnOk}
 use Rattle.std.specs.List.{AllByRecursion}
 use Rattle.std.proofs.lemmas.List.{append-nil, drop_at, get_or_at, length-map, length-set, length-replicate, take_at}
 use Rattle.spec_avro.specs.declared.limits.TheConstants.{MOST_DEPTH, MOST_OUTPUT}
-use Rattle.isa.specs.Lists.{total_length}
-use Rattle.isa.specs.State as state
-use Rattle.isa.specs.State.{Store, add, append, emptied, is_done, marked, miss, total}
+use Rattle.spec_machine.specs.Lengths.{total_length}
+use Rattle.spec_machine.specs.State as state
+use Rattle.spec_machine.specs.State.{Store, add, append, emptied, is_done, marked, miss, total}
 use Rattle.machine_store.specs.declared.buffers.TargetBuffer.{TargetBuffer}
 use Rattle.machine_store.specs.declared.buffers.TargetBuffer.TheVariants as places
 use Rattle.machine_store.specs.declared.store.Frame.{Frame}

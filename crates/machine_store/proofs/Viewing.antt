@@ -4,9 +4,9 @@ use Rattle.std.specs.Prelude.{Result, Ok, Err, OnErr, OnOk, is_ok, nat_lt, is_so
 use Rattle.std.proofs.lemmas.Option.{slice_get-get_or, slice_get_past}
 use Rattle.std.proofs.lemmas.List.{get_or-drop, get_or-map, get_or-take, length-drop, length-map, length-reverse, length-take, reverse-append, take-append-drop, take-take, take_all}
 use Rattle.std.proofs.Math.Seq.{drop-cons}
-use Rattle.avro_bytes.specs.Walk.{Walk}
-use Rattle.isa.specs.Lists.{total_length}
-use Rattle.isa.specs.State as state
+use Rattle.spec_decoding.specs.Walk.{Walk}
+use Rattle.spec_machine.specs.Lengths.{total_length}
+use Rattle.spec_machine.specs.State as state
 use Rattle.machine_store.specs.declared.buffers.TargetBuffer.{TargetBuffer}
 use Rattle.machine_store.specs.declared.buffers.TargetBuffer.TheVariants as places
 use Rattle.machine_store.specs.declared.segment.Segment.{Segment}

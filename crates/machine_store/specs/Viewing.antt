@@ -1,7 +1,7 @@
 -- Frames and buffers by index, the oldest frame first: what is seen of them. All of this is this project's own.
 use Rattle.std.specs.Prelude.{ℕ, ◌+◌, ◌-◌, List, [], ◌∷◌, length, get_or, reverse, slice_get, Option, Some, None, ◌==◌, nat_lt, if◌then◌else◌}
-use Rattle.isa.specs.State as state
-use Rattle.isa.specs.State.{Store}
+use Rattle.spec_machine.specs.State as state
+use Rattle.spec_machine.specs.State.{Store}
 use Rattle.machine_store.specs.declared.buffers.TargetBuffer.{TargetBuffer}
 use Rattle.machine_store.specs.declared.buffers.TargetBuffer.TheVariants as places
 use Rattle.machine_store.specs.declared.segment.Segment.{Segment}

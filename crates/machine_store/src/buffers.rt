@@ -1,7 +1,7 @@
 //! Buffers, as segments of one arena.
 
 ghost use Rattle.std.specs.Prelude.{◌≡◌, ◌≢◌, ◌+◌, ◌-◌, ◌^◌, ◌<◌, ◌≤◌, [], ◌++◌, drop, is_some, length, map, slice_get, take, IfNone, IfOk, IfSome, OnErr, OnOk, OnSome};
-ghost use Rattle.isa.specs.declared.limits.TheConstants.{MOST_SLOTS};
+ghost use Rattle.spec_machine.specs.declared.limits.TheConstants.{MOST_SLOTS};
 ghost use Rattle.machine_store.specs.declared.buffers.Buffer.TheVariants.{Empty};
 ghost use Rattle.machine_store.specs.Buffers.{AreLaid, AreRopes, IsHeld, AllHeld, IsLater, IsPlace, buffer_at, is_front, out_after, segments_at, segments_of, slots_after, with_added, with_closed, with_fewer, with_none, with_opened};
 ghost use Rattle.machine_store.specs.Segments.{bytes_of, with_bytes, with_lists, with_segment, with_segments};

@@ -2,7 +2,7 @@
 
 ghost use Rattle.std.specs.Prelude.{◌≡◌, ◌+◌, ◌-◌, ◌<◌, ◌≤◌, true, false, [], ◌∷◌, length, is_some, reverse, vec_len, Some, None, OnErr, OnOk, OnSome, IfNone, IfOk, IfSome};
 ghost use Rattle.spec_avro.specs.declared.limits.TheConstants.{MOST_DEPTH, MOST_OUTPUT};
-ghost use Rattle.isa.specs.State.{add, emptied, has_current, is_done, total};
+ghost use Rattle.spec_machine.specs.State.{add, emptied, has_current, is_done, total};
 ghost use Rattle.machine_store.specs.Buffers.{is_front};
 ghost use Rattle.machine_store.specs.Frames.{FewSlots, HasSlot, HoldsBuffers, first_of, frame_of, has_current_below, is_skip, is_skipped, items_of, newest_place, opened_at, place_of, skip_walk_of, slots_of, slots_opened, walk_of};
 ghost use Rattle.machine_store.specs.Store.{Appends, around_items, close_blocks, close_record, closed_between, leave, meter_of, next_item, next_skipped, select, with_frames};
@@ -325,7 +325,7 @@ impl Store {
 
     /// Marks a miss if it is the first, and then empties all buffers: nothing is held any more.
     pub fn miss(&mut self, miss: u32)
-        ensures missed { self.new.store ≡ Rattle.isa.specs.State.miss miss self.old.store }
+        ensures missed { self.new.store ≡ Rattle.spec_machine.specs.State.miss miss self.old.store }
         ensures units { self.new.units ≡ self.old.units }
     {
         match self.mark {

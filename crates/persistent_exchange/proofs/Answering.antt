@@ -12,10 +12,10 @@ use Rattle.http_server.specs.declared.state.Refusal.TheVariants as refusals
 use Rattle.http_server.specs.declared.state.State.{State}
 use Rattle.http_server.specs.declared.state.State.TheVariants as states
 use Rattle.http_server.proofs.StreamLemmas.{ReadsRequestMessage-append}
-use Rattle.persistent_exchange.specs.Answering.{AnswersNext, AreFor, CallsAreForTheSeen, CallsFor, IsFor, IsNext, called, refused}
-use Rattle.persistent_exchange.specs.Persistent.{Persistent, received}
+use Rattle.spec_service.specs.StreamAnswering.{AnswersNext, AreFor, CallsAreForTheSeen, CallsFor, IsFor, IsNext, called, refused}
+use Rattle.spec_service.specs.Persistent.{Persistent, received}
 use Rattle.persistent_exchange.specs.Preparing.{AnswerOnce, AnswersOnce}
-use Rattle.persistent_exchange.specs.Stream.{Asked, asked_in}
+use Rattle.spec_service.specs.Stream.{Asked, asked_in}
 use Rattle.persistent_exchange.proofs.Streams.{seen_are_the_requests}
 
 -- ---- the answer that is passed on

@@ -5,13 +5,14 @@ use Rattle.http1.specs.Message.{ReadsRequests}
 use Rattle.http_server.specs.Exchange.{Call}
 use Rattle.http_server.specs.History.{History, new_history}
 use Rattle.http_server.specs.declared.state.Config.{Config}
-use Rattle.persistent_exchange.specs.Answering.{IsNext}
-use Rattle.persistent_exchange.specs.Persistent.{HandsOn, Persistent, received}
-use Rattle.persistent_exchange.specs.Scouting.{Finds, Scouted}
+use Rattle.spec_service.specs.StreamAnswering.{IsNext}
+use Rattle.persistent_exchange.specs.Persistent.{HandsOn}
+use Rattle.spec_service.specs.Persistent.{Persistent, received}
+use Rattle.spec_service.specs.Scouting.{Finds, Scouted}
 use Rattle.persistent_exchange.specs.Standing.{Holds, IsAlike, Saw}
-use Rattle.persistent_exchange.specs.Stream.{Asked, Looks, asked_of, ended, more, new_scouted, none, taken}
-use Rattle.persistent_exchange.specs.declared.scout.Sighting.{Sighting}
-use Rattle.persistent_exchange.specs.declared.scout.Sighting.TheVariants.{End}
+use Rattle.spec_service.specs.Stream.{Asked, Looks, asked_of, ended, more, new_scouted, none, taken}
+use Rattle.spec_service.specs.declared.sighting.Sighting.{Sighting}
+use Rattle.spec_service.specs.declared.sighting.Sighting.TheVariants.{End}
 use Rattle.persistent_exchange.specs.declared.standing.Standing.{Standing}
 use Rattle.persistent_exchange.specs.declared.standing.Standing.TheVariants.{Due, Even, Lost, Whole}
 use Rattle.persistent_exchange.proofs.Streams.{seen_with_its_end}

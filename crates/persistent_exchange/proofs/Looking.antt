@@ -12,11 +12,12 @@ use Rattle.http1.specs.declared.conn.Reading.TheVariants as readings
 use Rattle.http1.specs.declared.server.Server.{Server}
 use Rattle.httparse.specs.declared.spans.Span.{Span}
 use Rattle.httparse.specs.Spans.{span_bytes}
-use Rattle.persistent_exchange.specs.Scouting.{Finds, FindsTooLarge, IsTooLarge, IsWhyNoHead, IsWhyNoPiece, IsWhyNone, Scouted, Sees, closed, paused, upgraded}
+use Rattle.spec_service.specs.Scouting.{Finds, Scouted, Sees, closed, paused, upgraded}
+use Rattle.persistent_exchange.specs.Scouting.{FindsTooLarge, IsTooLarge, IsWhyNoHead, IsWhyNoPiece, IsWhyNone}
 use Rattle.persistent_exchange.specs.declared.scout.Refusal.{Refusal}
 use Rattle.persistent_exchange.specs.declared.scout.Refusal.TheVariants.{NoMemory, TooLarge, Unreadable}
-use Rattle.persistent_exchange.specs.declared.scout.Sighting.{Sighting}
-use Rattle.persistent_exchange.specs.declared.scout.Sighting.TheVariants as sightings
+use Rattle.spec_service.specs.declared.sighting.Sighting.{Sighting}
+use Rattle.spec_service.specs.declared.sighting.Sighting.TheVariants as sightings
 
 -- `now` is what the caller saw before
 module _ (old now : Scouted) (input : List ℕ) (spans : List HeaderSpan) (server : Server) (read : Progress RequestSpans)

@@ -4,9 +4,10 @@ use Rattle.std.proofs.lemmas.List.{drop-append-le, drop-drop, length-drop, take_
 use Rattle.std.proofs.Math.Seq.{take-add, take-append_seam}
 use Rattle.http_server.specs.History.{History, after_read, after_sent}
 use Rattle.http_server.specs.declared.state.Config.{Config}
-use Rattle.persistent_exchange.specs.Persistent.{HandsOn, Persistent, Sends}
-use Rattle.persistent_exchange.specs.Scouting.{Finds, Scouted}
-use Rattle.persistent_exchange.specs.declared.scout.Sighting.{Sighting}
+use Rattle.persistent_exchange.specs.Persistent.{HandsOn, Sends}
+use Rattle.spec_service.specs.Persistent.{Persistent}
+use Rattle.spec_service.specs.Scouting.{Finds, Scouted}
+use Rattle.spec_service.specs.declared.sighting.Sighting.{Sighting}
 
 -- bytes of the last answer were sent, where nothing of the server's is left
 pub sends_last : (old now : Persistent) (count : ℕ) → old ≡ now → old.history.pending ≡ []

@@ -22,10 +22,10 @@ use Rattle.http1.specs.declared.decode.Decoder.{Decoder}
 use Rattle.http1.specs.declared.error.WriteError.{WriteError}
 use Rattle.http1.specs.declared.server.Server.{Server}
 use Rattle.http1.proofs.ServerTraceLemmas.{trace_reads_requests}
-use Rattle.persistent_exchange.specs.Scouting.{Finds, IsAfterAnswer, Scouted, Sees, Turns, adds, answered, begins, closed, ends, no_answer, no_end, paused, responded, upgraded, waits}
-use Rattle.persistent_exchange.specs.Stream.{Asked, Looks, SeenAreTheRequests, asked_in, asked_of, ended, more, new_scouted, none, taken}
-use Rattle.persistent_exchange.specs.declared.scout.Sighting.{Sighting}
-use Rattle.persistent_exchange.specs.declared.scout.Sighting.TheVariants as sightings
+use Rattle.spec_service.specs.Scouting.{Finds, IsAfterAnswer, Scouted, Sees, Turns, adds, answered, begins, closed, ends, no_answer, no_end, paused, responded, upgraded, waits}
+use Rattle.spec_service.specs.Stream.{Asked, Looks, SeenAreTheRequests, asked_in, asked_of, ended, more, new_scouted, none, taken}
+use Rattle.spec_service.specs.declared.sighting.Sighting.{Sighting}
+use Rattle.spec_service.specs.declared.sighting.Sighting.TheVariants as sightings
 
 abbrev asked_in_view : SeenRequest → Asked
 asked_in_view r = record { method = r.method; target = r.target; content = r.body.bytes }

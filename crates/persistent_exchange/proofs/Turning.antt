@@ -7,7 +7,8 @@ use Rattle.http1.specs.declared.conn.BodySize.TheVariants.{Empty}
 use Rattle.http1.specs.declared.error.WriteError.{WriteError}
 use Rattle.http1.specs.declared.error.WriteError.TheVariants.{OutOfMemory}
 use Rattle.http1.specs.declared.server.Server.{Server}
-use Rattle.persistent_exchange.specs.Scouting.{IsAfterAnswer, IsTaken, Scouted, Turns, answered, no_answer, no_end, responded}
+use Rattle.spec_service.specs.Scouting.{IsAfterAnswer, Scouted, Turns, answered, no_answer, no_end, responded}
+use Rattle.persistent_exchange.specs.Scouting.{IsTaken}
 
 -- a call that was answered had nothing to refuse
 pub none_refused : {T : Type 0} (refusal : Option WriteError) (spare len : ℕ) (r : Result T WriteError) (x : T) → r ≡ Ok x

@@ -8,11 +8,9 @@ use Rattle.http.specs.declared.request.Request.{Request}
 use Rattle.http_server.specs.Exchange.{Call, Calls, Chain}
 use Rattle.http_server.specs.declared.response.Response.{Response}
 use Rattle.gateway_exchange.specs.Exchange.{Gains}
-use Rattle.persistent_exchange.specs.Persistent.{Persistent, Sends, Writes, pending, received, sent}
-
-no_bytes : (a : Option (List ℕ)) (bytes : List ℕ) → Appends a a (take 0 bytes)
-no_bytes None bytes = tt
-no_bytes (Some x) bytes = sym (append-nil x)
+use Rattle.spec_service.specs.Persistent.{Persistent, received}
+use Rattle.persistent_exchange.specs.Persistent.{Sends, Writes, pending, sent}
+use Rattle.gateway_exchange.specs.Laws.Plain.{no_bytes}
 
 -- nothing was written yet
 pub writes_none : (a : Option (List ℕ)) (p : Persistent) → Writes a a p p

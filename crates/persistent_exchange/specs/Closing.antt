@@ -3,9 +3,9 @@
 use Rattle.std.specs.Prelude.{◌≡◌, ◌-◌, ℕ, Bool, true, false, List, [], ◌++◌, take, Option, Some, None, codes}
 use Rattle.httpdate.specs.Date.{date_text}
 use Rattle.httpdate.specs.declared.date.HttpDate.{HttpDate}
-use Rattle.gateway_requests.specs.Answer.{Refused, answer_text, content_of}
-use Rattle.gateway_requests.specs.declared.answer_bytes.AnswerBytes.{AnswerBytes}
-use Rattle.gateway_requests.specs.declared.fault.Fault.{Fault}
+use Rattle.spec_service.specs.Answer.{Refused, answer_text, content_of}
+use Rattle.spec_service.specs.declared.answer_bytes.AnswerBytes.{AnswerBytes}
+use Rattle.spec_service.specs.declared.fault.Fault.{Fault}
 
 -- the line of a date, where there is a clock (RFC 9110, section 6.6.1)
 abbrev pub date_line : Option HttpDate → List ℕ

@@ -1,8 +1,8 @@
 -- How the requests that were seen go with the calls that the server has made. This project's own; for private clauses.
 use Rattle.std.specs.Prelude.{◌≡◌, ◌+◌, ℕ, List, length, drop}
-use Rattle.persistent_exchange.specs.Answering.{IsNext}
-use Rattle.persistent_exchange.specs.Persistent.{Persistent, received}
-use Rattle.persistent_exchange.specs.Stream.{Asked, Looks, asked_of, new_scouted, taken}
+use Rattle.spec_service.specs.StreamAnswering.{IsNext}
+use Rattle.spec_service.specs.Persistent.{Persistent, received}
+use Rattle.spec_service.specs.Stream.{Asked, Looks, asked_of, new_scouted, taken}
 use Rattle.persistent_exchange.specs.declared.standing.Standing.{Standing}
 use Rattle.persistent_exchange.specs.declared.standing.Standing.TheVariants.{Due, Even, Lost, Whole}
 

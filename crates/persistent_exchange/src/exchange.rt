@@ -6,10 +6,12 @@ ghost use Rattle.http1.specs.Server.{new_server};
 ghost use Rattle.http_server.specs.Exchange.{Calls};
 ghost use Rattle.http_server.specs.History.{IsDone, IsServed, Rests, new_history};
 ghost use Rattle.wire_frames.specs.Moving.{Receives};
-ghost use Rattle.persistent_exchange.specs.Answering.{AnswersNext, CallsFor, IsNext};
-ghost use Rattle.persistent_exchange.specs.Persistent.{HandsOn, Sends, pending, received, sent};
-ghost use Rattle.persistent_exchange.specs.Scouting.{Finds, IsWhyNone};
-ghost use Rattle.persistent_exchange.specs.Stream.{Asked, asked_of, taken};
+ghost use Rattle.spec_service.specs.StreamAnswering.{AnswersNext, CallsFor, IsNext};
+ghost use Rattle.persistent_exchange.specs.Persistent.{HandsOn, Sends, pending, sent};
+ghost use Rattle.spec_service.specs.Persistent.{received};
+ghost use Rattle.spec_service.specs.Scouting.{Finds};
+ghost use Rattle.persistent_exchange.specs.Scouting.{IsWhyNone};
+ghost use Rattle.spec_service.specs.Stream.{Asked, asked_of, taken};
 
 use crate::prepared::{NoAnswer, Prepared};
 use crate::scout::{Refusal, Scout, Sighting};
@@ -49,7 +51,7 @@ pub struct PersistentExchange {
 impl Model for PersistentExchange {
     ghost use Rattle.std.specs.Prelude.{◌≡◌, ◌≤◌, ◌<◌, [], length};
     ghost use Rattle.http_server.specs.Connection.{config_of, history};
-    ghost use Rattle.persistent_exchange.specs.Persistent.{Persistent};
+    ghost use Rattle.spec_service.specs.Persistent.{Persistent};
     ghost use Rattle.persistent_exchange.specs.Standing.{Holds};
 
     ghost Value = { Persistent };

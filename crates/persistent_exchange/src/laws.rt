@@ -1,7 +1,7 @@
 //! Laws of what is seen of a stream. They do nothing when they run.
 
-ghost use Rattle.persistent_exchange.specs.Answering.{CallsAreForTheSeen};
-ghost use Rattle.persistent_exchange.specs.Stream.{SeenAreTheRequests};
+ghost use Rattle.spec_service.specs.StreamAnswering.{CallsAreForTheSeen};
+ghost use Rattle.spec_service.specs.Stream.{SeenAreTheRequests};
 
 /// The law that the requests that were seen of a stream, in whatever parts it came, are its first ones by the grammar
 /// of `http1`: two are never made of one, nor one of two.

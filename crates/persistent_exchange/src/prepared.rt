@@ -1,11 +1,11 @@
 //! An answer that is ready before the connection's server asks for it.
 
 ghost use Rattle.std.specs.Prelude.{◌≡◌, ◌++◌, false, IfOk, OnOk};
-ghost use Rattle.gateway_requests.specs.ContentType.{type_name};
-ghost use Rattle.gateway_requests.specs.Status.{number_of};
+ghost use Rattle.spec_service.specs.ContentType.{type_name};
+ghost use Rattle.spec_service.specs.Status.{number_of};
 ghost use Rattle.http_header.specs.FieldValue.{plain_value};
 ghost use Rattle.http_server.specs.Response.{IsBlank, fields_of};
-ghost use Rattle.persistent_exchange.specs.Preparing.{IsPrepared, answer_of, date_fields};
+ghost use Rattle.spec_service.specs.Preparing.{IsPrepared, answer_of, date_fields};
 
 use bytes::Bytes;
 use gateway_requests::{AnswerBytes, ContentType, Status};

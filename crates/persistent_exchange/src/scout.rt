@@ -4,31 +4,17 @@ ghost use Rattle.std.specs.Prelude.{◌≡◌, ◌≤◌, ◌↔◌, [], IfErr, 
 ghost use Rattle.httparse.specs.Spans.{IsWithin};
 ghost use Rattle.http1.specs.Conn.{unread_size};
 ghost use Rattle.http1.specs.Server.{has_codings, new_server, reading};
-ghost use Rattle.http1.specs.declared.conn.Event.TheVariants as events;
-ghost use Rattle.persistent_exchange.specs.Scouting.{Adds, AwaitsContent, Begins, Finds, IsTaken, IsWhyNoHead, IsWhyNoPiece, IsWhyNone, Turns};
+ghost use Rattle.spec_service.specs.Scouting.{Adds, Begins, Finds, Turns};
+ghost use Rattle.persistent_exchange.specs.Scouting.{AwaitsContent, IsTaken, IsWhyNoHead, IsWhyNoPiece, IsWhyNone};
 ghost use Rattle.persistent_exchange.specs.declared.scout.Refusal.TheVariants.{NoMemory};
 
 use http_server::MAX_HEADERS;
 use http1::{BodySize, Event, Limits, ReadError, Server, WriteError};
 use httparse::spans::{EMPTY_HEADER_SPAN, RequestSpans};
+pub use spec_service::Sighting;
 use std::alloc::{AllocError, Global};
 use std::marker::Model;
 use std::mem;
-
-/// What the next bytes of a connection are.
-#[derive(Clone, Copy, Debug, PartialEq, Eq)]
-pub enum Sighting {
-    /// They are no whole part of a request: more have to come.
-    Nothing,
-    /// They are the head of a request.
-    Head,
-    /// They are a piece of its content.
-    Piece,
-    /// They are the end of the request.
-    End,
-    /// Nothing more is read: the request before was the last one.
-    Over,
-}
 
 /// Why nothing is seen in the next bytes of a connection.
 #[derive(Clone, Copy, Debug, PartialEq, Eq)]
@@ -74,7 +60,7 @@ pub struct Scout {
 
 impl Model for Scout {
     ghost use Rattle.std.specs.Prelude.{◌≤◌, length};
-    ghost use Rattle.persistent_exchange.specs.Scouting.{Scouted};
+    ghost use Rattle.spec_service.specs.Scouting.{Scouted};
 
     ghost Value = { Scouted };
 

@@ -1,7 +1,7 @@
 //! How the requests that were seen of a connection go with the calls that its server has made.
 
 ghost use Rattle.std.specs.Prelude.{◌≡◌, ◌≢◌, true};
-ghost use Rattle.persistent_exchange.specs.declared.scout.Sighting.TheVariants.{End};
+ghost use Rattle.spec_service.specs.declared.sighting.Sighting.TheVariants.{End};
 ghost use Rattle.persistent_exchange.specs.declared.standing.Standing.TheVariants.{Due, Even, Lost, Whole};
 
 use crate::scout::Sighting;

@@ -3,11 +3,12 @@
 ghost use Rattle.std.specs.Prelude.{◌≡◌, IfErr, IfOk, IfSome, OnOk};
 ghost use Rattle.gateway_exchange.specs.Exchange.{Gains};
 ghost use Rattle.http_server.specs.History.{IsServed};
-ghost use Rattle.persistent_exchange.specs.Answering.{AnswersNext, CallsFor, IsNext};
-ghost use Rattle.persistent_exchange.specs.Persistent.{Writes, received, sent};
-ghost use Rattle.persistent_exchange.specs.Preparing.{answer_of};
-ghost use Rattle.persistent_exchange.specs.Refused.{IsRefused};
-ghost use Rattle.persistent_exchange.specs.Stream.{Asked, asked_of};
+ghost use Rattle.spec_service.specs.StreamAnswering.{AnswersNext, CallsFor, IsNext};
+ghost use Rattle.persistent_exchange.specs.Persistent.{Writes, sent};
+ghost use Rattle.spec_service.specs.Persistent.{received};
+ghost use Rattle.spec_service.specs.Preparing.{answer_of};
+ghost use Rattle.spec_service.specs.StreamRefused.{IsRefused};
+ghost use Rattle.spec_service.specs.Stream.{Asked, asked_of};
 
 use crate::closing::closing_fault;
 use crate::exchange::PersistentExchange;
@@ -74,7 +75,7 @@ pub struct RequestStream {
 }
 
 impl Model for RequestStream {
-    ghost use Rattle.persistent_exchange.specs.Persistent.{Persistent};
+    ghost use Rattle.spec_service.specs.Persistent.{Persistent};
 
     ghost Value = { Persistent };
 

@@ -1,12 +1,12 @@
 //! A request of a connection that stays, which has come whole.
 
 ghost use Rattle.std.specs.Prelude.{◌≡◌, IfErr, IfOk};
-ghost use Rattle.gateway_requests.specs.Asking.{asked_at};
+ghost use Rattle.spec_service.specs.Asking.{asked_at};
 ghost use Rattle.gateway_requests.specs.Request.{request_of};
 ghost use Rattle.gateway_requests.specs.Sizes.{IsWithin};
 ghost use Rattle.gateway_requests.specs.Steps.{Tells};
-ghost use Rattle.gateway_requests.specs.declared.limits.TheConstants.{MOST_BODY};
-ghost use Rattle.persistent_exchange.specs.Refused.{IsRefused};
+ghost use Rattle.spec_service.specs.declared.limits.TheConstants.{MOST_BODY};
+ghost use Rattle.spec_service.specs.StreamRefused.{IsRefused};
 
 use gateway_requests::{Action, Fault, MOST_BODY, Request, Routes, action_at, path_of, request_of};
 use std::alloc::Global;
@@ -26,9 +26,9 @@ pub struct WholeRequest {
 
 impl Model for WholeRequest {
     ghost use Rattle.std.specs.Prelude.{◌≡◌, ◌≤◌, length, string_bytes};
-    ghost use Rattle.gateway_requests.specs.Asking.{action_at};
-    ghost use Rattle.gateway_requests.specs.declared.limits.TheConstants.{MOST_BODY};
-    ghost use Rattle.persistent_exchange.specs.Stream.{Asked};
+    ghost use Rattle.spec_service.specs.Asking.{action_at};
+    ghost use Rattle.spec_service.specs.declared.limits.TheConstants.{MOST_BODY};
+    ghost use Rattle.spec_service.specs.Stream.{Asked};
 
     ghost Value = { Asked };
 

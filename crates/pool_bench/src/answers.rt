@@ -1,7 +1,7 @@
 //! A session on the message, to its end.
 
 ghost use Rattle.std.specs.Prelude.{◌≡◌, IfSome};
-ghost use Rattle.schema_registry.specs.Receipt.{IsReceiptOf};
+ghost use Rattle.spec_registry.specs.Receipt.{IsReceiptOf};
 ghost use Rattle.session_pool.specs.Seats.{IsPassOf, Rests};
 
 use crate::message::{MESSAGE, OUTPUT};

@@ -17,7 +17,7 @@ mod waiting;
 mod words;
 
 ghost use Rattle.std.specs.Prelude.{◌≡◌};
-ghost use Rattle.schema_registry.specs.Receipt.{IsReceiptOf};
+ghost use Rattle.spec_registry.specs.Receipt.{IsReceiptOf};
 
 use by_threads::Load;
 use error::BenchError;

@@ -1,7 +1,7 @@
 //! The message, its schemas, and what becomes of it.
 
 ghost use Rattle.std.specs.Prelude.{IfOk};
-ghost use Rattle.schema_registry.specs.Receipt.{IsReceiptOf};
+ghost use Rattle.spec_registry.specs.Receipt.{IsReceiptOf};
 
 use program_cache::ProgramCache;
 use schema_registry::{Receipt, Refusal};

@@ -1,7 +1,7 @@
 //! Sessions of a pool on one thread, which is client and worker.
 
 ghost use Rattle.std.specs.Prelude.{◌≡◌};
-ghost use Rattle.schema_registry.specs.Receipt.{IsReceiptOf};
+ghost use Rattle.spec_registry.specs.Receipt.{IsReceiptOf};
 ghost use Rattle.session_pool.specs.Seats.{Rests, RestsWorker};
 
 use crate::answers::{MOST_ROWS, fed, is_right};

@@ -1,9 +1,9 @@
 -- What a pair was compiled to answers for its schemas.
 use Rattle.std.proofs.Common.{◌≡◌, Option, Some, None, IfSome, subst, Bor}
 use Rattle.std.specs.Prelude.{Result}
-use Rattle.avro_schema.specs.Schema.{Declaration}
-use Rattle.machine.specs.ProgramPair.{Pair}
-use Rattle.schema_registry.specs.Receipt.{Shown}
+use Rattle.spec_schema.specs.Schema.{Declaration}
+use Rattle.spec_sessions.specs.ProgramPair.{Pair}
+use Rattle.spec_registry.specs.Receipt.{Shown}
 use Rattle.program_cache.specs.declared.compiled.Compiled.{Compiled}
 use Rattle.program_cache.specs.declared.refusal.PairRefusal.{PairRefusal}
 use Rattle.program_cache.specs.Compiled.{IsCompiled}

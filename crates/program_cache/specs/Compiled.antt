@@ -1,8 +1,8 @@
 -- What a pair of schemas was compiled to. All of this is this project's own.
 use Rattle.std.specs.Prelude.{◌≡◌, None}
-use Rattle.avro_schema.specs.Schema.{Declaration}
-use Rattle.machine.specs.ProgramPair.{IsProgramOf}
-use Rattle.program_definition.specs.Code.{code_of}
+use Rattle.spec_schema.specs.Schema.{Declaration}
+use Rattle.spec_sessions.specs.ProgramPair.{IsProgramOf}
+use Rattle.spec_machine.specs.Code.{code_of}
 use Rattle.program_cache.specs.declared.compiled.Compiled.{Compiled}
 use Rattle.program_cache.specs.declared.compiled.Compiled.TheVariants.{Program, TooLarge}
 use Rattle.program_cache.specs.declared.compiled.LargePair.{LargePair}

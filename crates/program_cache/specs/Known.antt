@@ -1,7 +1,7 @@
 -- The pairs that are known by their receipts. All of this is this project's own.
 use Rattle.std.specs.Prelude.{◌≡◌, ◌<◌, ℕ, List, length, slice_index_or, IfSome}
 use Rattle.boxcar.specs.Slot.{Named}
-use Rattle.schema_registry.specs.Receipt.{IsReceiptOf, Shown}
+use Rattle.spec_registry.specs.Receipt.{IsReceiptOf, Shown}
 use Rattle.program_cache.specs.declared.compiled.Compiled.{Compiled}
 use Rattle.program_cache.specs.declared.known.KnownPair.{KnownPair}
 use Rattle.program_cache.specs.declared.known.KnownPairs.{KnownPairs}

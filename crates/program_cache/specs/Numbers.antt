@@ -1,6 +1,6 @@
 -- The numbers of pairs of ids. All of this is this project's own.
 use Rattle.std.specs.Prelude.{◌≡◌, ◌<◌, ◌≤◌, ℕ, ◌+◌, ◌*◌, ◌-◌}
-use Rattle.schema_registry.specs.declared.limits.TheConstants.{MOST_SCHEMAS}
+use Rattle.spec_registry.specs.declared.limits.TheConstants.{MOST_SCHEMAS}
 use Rattle.program_cache.specs.declared.place.Place.{Place}
 use Rattle.program_cache.specs.declared.cells.TheConstants.{CELLS}
 

@@ -1,11 +1,11 @@
 -- What a cache answers for two schemas. All of this is this project's own.
 use Rattle.std.specs.Prelude.{◌≡◌, Result, Ok, Err, None}
 use Rattle.std.proofs.Common.{Bor}
-use Rattle.avro_schema.specs.Schema.{Declaration}
-use Rattle.machine.specs.ProgramPair.{IsProgramOf, Pair}
-use Rattle.program_definition.specs.Code.{code_of}
-use Rattle.session_core.specs.declared.publish_error.PublishError.{PublishError}
-use Rattle.session_core.specs.declared.publish_error.PublishError.TheVariants as errors
+use Rattle.spec_schema.specs.Schema.{Declaration}
+use Rattle.spec_sessions.specs.ProgramPair.{IsProgramOf, Pair}
+use Rattle.spec_machine.specs.Code.{code_of}
+use Rattle.spec_sessions.specs.declared.publish_error.PublishError.{PublishError}
+use Rattle.spec_sessions.specs.declared.publish_error.PublishError.TheVariants as errors
 use Rattle.program_cache.specs.Compiled.{IsOther}
 use Rattle.program_cache.specs.declared.refusal.PairRefusal.{PairRefusal}
 use Rattle.program_cache.specs.declared.refusal.PairRefusal.TheVariants.{Clash, NoMemory, ProgramTooLarge}

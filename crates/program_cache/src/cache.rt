@@ -3,7 +3,7 @@
 ghost use Rattle.std.specs.Prelude.{◌≡◌, IfOk, IfSome};
 ghost use Rattle.program_cache.specs.Numbers.{number_of_place, pair_number};
 ghost use Rattle.program_cache.specs.Pairs.{IsPairAnswer};
-ghost use Rattle.schema_registry.specs.Receipt.{IsReceiptOf};
+ghost use Rattle.spec_registry.specs.Receipt.{IsReceiptOf};
 ghost use Rattle.session_core.specs.Publishing.{IsPublished};
 
 use crate::cells::{Cells, NumberedCell};

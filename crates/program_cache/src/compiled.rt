@@ -1,8 +1,8 @@
 //! What a pair of schemas was compiled to.
 
 ghost use Rattle.std.specs.Prelude.{◌≡◌, None, IfOk, false, true};
-ghost use Rattle.avro_schema.specs.Schema.{Declaration};
-ghost use Rattle.program_definition.specs.Code.{code_of};
+ghost use Rattle.spec_schema.specs.Schema.{Declaration};
+ghost use Rattle.spec_machine.specs.Code.{code_of};
 
 use crate::refusal::PairRefusal;
 use avro_schema::Schema;

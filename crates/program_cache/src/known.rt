@@ -1,7 +1,7 @@
 //! The pairs of schemas that are known by their receipts.
 
 ghost use Rattle.std.specs.Prelude.{◌≡◌, ◌<◌, ◌↔◌, IfOk, IfErr, IfSome, true};
-ghost use Rattle.schema_registry.specs.Receipt.{IsReceiptOf};
+ghost use Rattle.spec_registry.specs.Receipt.{IsReceiptOf};
 ghost use Rattle.program_cache.specs.declared.known.TheConstants.{KNOWN};
 
 use crate::compiled::Compiled;

@@ -5,17 +5,17 @@ use Rattle.std.specs.List.{AllByRecursion}
 use Rattle.std.specs.Global.{Vec}
 use Rattle.std.specs.Str.{bytes_eq}
 use Rattle.spec_avro.specs.Node.{Node}
-use Rattle.isa.specs.declared.entry.Entry.{Entry}
-use Rattle.isa.specs.declared.instr.Instr.{Instr}
-use Rattle.isa.specs.declared.limits.TheConstants.{MOST_CONSTANT_BYTES, MOST_INSTRS, MOST_TABLES}
-use Rattle.isa.specs.Lists.{total_length}
-use Rattle.isa.specs.Program.{Program}
-use Rattle.isa.specs.Range.{IsProgram}
+use Rattle.spec_machine.specs.declared.entry.Entry.{Entry}
+use Rattle.spec_machine.specs.declared.instr.Instr.{Instr}
+use Rattle.spec_machine.specs.declared.limits.TheConstants.{MOST_CONSTANT_BYTES, MOST_INSTRS, MOST_TABLES}
+use Rattle.spec_machine.specs.Lengths.{total_length}
+use Rattle.spec_machine.specs.Program.{Program}
+use Rattle.spec_machine.specs.Range.{IsProgram}
 use Rattle.spec_avro.specs.declared.limits.TheConstants.{MOST_OUTPUT}
 use Rattle.spec_avro.specs.declared.mismatch.Mismatch.{Mismatch}
-use Rattle.program_definition.specs.Code.{are_whole, is_lost}
-use Rattle.program_definition.specs.Statements.{Statement, Section}
-use Rattle.program_definition.specs.Numbering.{code_from, constants_in, constants_of, entry_of, has, jumps_from, maps_of, misses_in, named_in, numbered}
+use Rattle.spec_machine.specs.Code.{are_whole, is_lost}
+use Rattle.spec_machine.specs.Statements.{Statement, Section}
+use Rattle.spec_machine.specs.Numbering.{code_from, constants_in, constants_of, entry_of, has, jumps_from, maps_of, misses_in, named_in, numbered}
 use Rattle.program_definition.proofs.Numbers.{added, bytes_is, bytes_refl}
 use Rattle.program_definition.proofs.Ranges.{code_length}
 use Rattle.program_compiler.specs.declared.error.CompileError.{CompileError}
@@ -91,7 +91,7 @@ five {code} {other_code} {cs} {other_cs} {maps} {other_maps} {jumps} {other_jump
     ∙ ap (λ x. record { code = other_code; constants = other_cs; maps = other_maps; jumps = x; misses = ms }) d
     ∙ ap (λ x. record { code = other_code; constants = other_cs; maps = other_maps; jumps = other_jumps; misses = x }) e
 
-different : false ≡ true → ⊥
+pub different : false ≡ true → ⊥
 different h = let wrong : ⊥ = cc in wrong
 
 -- ---- of the statements that were gone over, which are all statements of the sections

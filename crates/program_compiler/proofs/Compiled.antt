@@ -3,24 +3,26 @@ use Rattle.std.proofs.Common.{◌≡◌, ℕ, ◌+◌, Bool, true, false, not, L
 use Rattle.std.specs.Prelude.{◌==◌, ◌&&◌, if◌then◌else◌, is_ok}
 use Rattle.spec_avro.specs.Node.{Node}
 use Rattle.spec_avro.specs.declared.mismatch.Mismatch.{Mismatch}
-use Rattle.isa.specs.declared.instr.Instr.TheVariants as op
+use Rattle.spec_machine.specs.declared.instr.Instr.TheVariants as op
 use Rattle.isa.specs.declared.parts.Parts.{Parts}
-use Rattle.isa.specs.declared.program.ProgramError.{ProgramError}
-use Rattle.isa.specs.declared.program.ProgramError.TheVariants.{NoCode, TooLarge}
-use Rattle.isa.specs.Judging.{first_error, is_within_limits, judged}
-use Rattle.isa.specs.Program.{Program, program_of}
-use Rattle.isa.specs.Range.{IsProgram}
-use Rattle.program_definition.specs.Code.{are_whole, checked, code_of, start_in}
-use Rattle.program_definition.specs.Statements.{Statement, Section, Op, Put, Miss, BytesText, Enum, Call, Ahead, Back, Branch, Lost}
+use Rattle.spec_machine.specs.declared.program_error.ProgramError.{ProgramError}
+use Rattle.spec_machine.specs.declared.program_error.ProgramError.TheVariants.{NoCode, TooLarge}
+use Rattle.spec_machine.specs.Judging.{first_error, is_within_limits, judged}
+use Rattle.spec_machine.specs.Program.{Program}
+use Rattle.isa.specs.Program.{program_of}
+use Rattle.spec_machine.specs.Range.{IsProgram}
+use Rattle.spec_machine.specs.Code.{are_whole, checked, code_of, start_in}
+use Rattle.spec_machine.specs.Statements.{Statement, Section, Op, Put, Miss, BytesText, Enum, Call, Ahead, Back, Branch, Lost}
 use Rattle.program_definition.specs.Linking.{ProgramIsInRange}
-use Rattle.program_definition.specs.Numbering.{code_from, constants_in, entry_of, jumps_from, jumps_of, linked, maps_of, misses_in, named_in, numbered}
-use Rattle.program_definition.specs.Writing.{section}
+use Rattle.spec_machine.specs.Numbering.{code_from, constants_in, entry_of, jumps_from, jumps_of, linked, maps_of, misses_in, named_in, numbered}
+use Rattle.spec_machine.specs.Writing.{section}
 use Rattle.program_ir.specs.Statements.{statements_in}
 use Rattle.program_compiler.specs.declared.error.CompileError.{CompileError}
 use Rattle.program_compiler.specs.declared.error.CompileError.TheVariants as CompileErrors
 use Rattle.program_compiler.specs.Walking.{AreSectionStatements, SectionStatements, Walks, start_at}
 use Rattle.program_compiler.specs.Compiling.{Compiles}
 use Rattle.program_compiler.specs.Parts.{Assembles}
+use Rattle.program_compiler.proofs.Assembled.{different}
 
 module _ (s t : Section → ℕ) (same : (x : Section) → s x ≡ t x) where
   linked_same : (cs : List (List ℕ)) (ms : List Mismatch) (pc m j : ℕ) (l : Statement) → linked s cs ms pc m j l ≡ linked t cs ms pc m j l
@@ -107,9 +109,6 @@ taken_parts W R l parts result is h = subst (Assembles (statements_in W R l.stat
 
 err_is_not_ok : (e : ProgramError) (result : Result Program ProgramError) → result ≡ Err e → is_ok result ≡ false
 err_is_not_ok e result is = ap is_ok is
-
-different : false ≡ true → ⊥
-different h = let wrong : ⊥ = cc in wrong
 
 pub refused : (e : ProgramError) (result : Result Program ProgramError) → result ≡ Err e → is_ok result ≡ true → ⊥
 refused e result is h = different (sym (err_is_not_ok e result is) ∙ h)

@@ -6,7 +6,7 @@ use Rattle.std.specs.BTreeMap.{BTreeMap, get}
 use Rattle.std.specs.Ordering.{is_eq}
 use Rattle.std.specs.Str.{bytes_eq}
 use Rattle.spec_avro.specs.Node.{Node}
-use Rattle.program_definition.specs.Numbering.{adding, has, number}
+use Rattle.spec_machine.specs.Numbering.{adding, has, number}
 use Rattle.program_definition.proofs.Growing.{number_more}
 use Rattle.program_definition.proofs.Numbers.{added, bytes_refl, has_more}
 use Rattle.program_ir.specs.declared.statements.Constant.TheVariants.{Default}

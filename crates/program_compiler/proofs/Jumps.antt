@@ -5,9 +5,9 @@ use Rattle.std.specs.List.{AllByRecursion}
 use Rattle.std.proofs.Math.Seq.{drop-cons}
 use Rattle.std.proofs.lemmas.List.{map-append}
 use Rattle.spec_avro.specs.Node.{Node}
-use Rattle.isa.specs.declared.entry.Entry.{Entry}
+use Rattle.spec_machine.specs.declared.entry.Entry.{Entry}
 use Rattle.spec_avro.specs.declared.mismatch.Mismatch.{Mismatch}
-use Rattle.program_definition.specs.Numbering.{entry_of, jumps_from, jumps_of, maps_of, named_in}
+use Rattle.spec_machine.specs.Numbering.{entry_of, jumps_from, jumps_of, maps_of, named_in}
 use Rattle.program_definition.proofs.Numbering.{all_front, all_back}
 use Rattle.std.specs.Global.{Vec}
 use Rattle.program_ir.specs.declared.statements.Statement as rust

@@ -5,12 +5,12 @@ use Rattle.program_compiler.specs.declared.error.CompileError.{CompileError}
 use Rattle.program_compiler.specs.declared.error.CompileError.TheVariants.{ProgramTooLarge, NoMemory}
 use Rattle.std.specs.List.{AllByRecursion}
 use Rattle.spec_avro.specs.Node.{Node}
-use Rattle.isa.specs.declared.instr.Instr.{Instr}
-use Rattle.isa.specs.Range.{InstrIsInRange, sizes_of}
+use Rattle.spec_machine.specs.declared.instr.Instr.{Instr}
+use Rattle.spec_machine.specs.Range.{InstrIsInRange, sizes_of}
 use Rattle.spec_avro.specs.declared.limits.TheConstants.{MOST_OUTPUT}
 use Rattle.spec_avro.specs.declared.mismatch.Mismatch.{Mismatch}
-use Rattle.program_definition.specs.Statements.{Section}
-use Rattle.program_definition.specs.Numbering.{code_from, constants_of, jumps_of, linked, maps_of, named_in}
+use Rattle.spec_machine.specs.Statements.{Section}
+use Rattle.spec_machine.specs.Numbering.{code_from, constants_of, jumps_of, linked, maps_of, named_in}
 use Rattle.program_definition.proofs.Numbering.{all_front, all_back}
 use Rattle.program_ir.specs.declared.statements.Statement as rust
 use Rattle.program_ir.specs.Statements.{statement_of, statements_in}

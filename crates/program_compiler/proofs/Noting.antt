@@ -6,7 +6,7 @@ use Rattle.std.specs.BTreeSet.{BTreeSet, contains}
 use Rattle.std.specs.Ordering.{is_eq}
 use Rattle.spec_avro.specs.declared.mismatch.Mismatch.{Mismatch}
 use Rattle.spec_avro.specs.Node.{Node}
-use Rattle.program_definition.specs.Numbering.{adding, has, lacked, same_miss}
+use Rattle.spec_machine.specs.Numbering.{adding, has, lacked, same_miss}
 use Rattle.program_definition.proofs.Numbers.{added, all_more, miss_refl}
 use Rattle.program_ir.specs.Statements.{targets_of}
 use Rattle.program_ir.specs.Sections.{pair_cmp}

@@ -13,15 +13,15 @@ use Rattle.spec_avro.specs.Node.{Node, Names, FieldNode, RecordNode}
 use Rattle.avro_types.specs.Node.{field_of, fields_of, node_of}
 use Rattle.spec_avro.specs.WellFormed.{FieldsBelow, IsWellFormed}
 use Rattle.spec_avro.specs.Writing.{written}
-use Rattle.isa.specs.declared.instr.Instr.TheVariants as op
+use Rattle.spec_machine.specs.declared.instr.Instr.TheVariants as op
 use Rattle.spec_avro.specs.declared.place.Partner.{Partner}
 use Rattle.spec_avro.specs.declared.place.Route.{Route}
 use Rattle.spec_avro.specs.Options.{given}
 use Rattle.resolver.specs.Partners.{AreRoutes, IsRoute}
 use Rattle.spec_avro.specs.Partners.{has_partner, partner_at, partners, routes, routes_to}
-use Rattle.program_definition.specs.Statements.{Statement, Lost, Op, Put}
-use Rattle.program_definition.specs.Skipping.{K, skip_routine}
-use Rattle.program_definition.specs.Writing.{X, default_bytes, defaults_code, field_code, fields_code, put_in}
+use Rattle.spec_machine.specs.Statements.{Statement, Lost, Op, Put}
+use Rattle.spec_machine.specs.Skipping.{K, skip_routine}
+use Rattle.spec_machine.specs.Writing.{X, default_bytes, defaults_code, field_code, fields_code, put_in}
 use Rattle.spec_avro.specs.Resolution.{field_lists}
 use Rattle.program_ir.specs.declared.statements.Constant.TheVariants as constants
 use Rattle.program_ir.proofs.Appended.{two}

@@ -2,11 +2,11 @@
 use Rattle.std.proofs.Common.{◌≡◌, ℕ, zero, suc, ◌≤◌, List, [], ◌∷◌, ◌++◌, length, Option, Some, None, refl, sym, ap, ◌∙◌, arith}
 use Rattle.std.specs.Prelude.{slice_get}
 use Rattle.spec_avro.specs.Node.{Node, RecordNode}
-use Rattle.isa.specs.declared.instr.Instr.TheVariants as op
+use Rattle.spec_machine.specs.declared.instr.Instr.TheVariants as op
 use Rattle.spec_avro.specs.Options.{given}
-use Rattle.program_definition.specs.Statements.{Statement, Lost, Op, Main, Write, Skip}
-use Rattle.program_definition.specs.Skipping.{skip_routine}
-use Rattle.program_definition.specs.Writing.{X, section, write_routine}
+use Rattle.spec_machine.specs.Statements.{Statement, Lost, Op, Main, Write, Skip}
+use Rattle.spec_machine.specs.Skipping.{skip_routine}
+use Rattle.spec_machine.specs.Writing.{X, section, write_routine}
 use Rattle.spec_avro.specs.Resolution.{field_lists}
 
 past : {A : Type 0} (xs : List A) (i : ℕ) → length xs ≤ i → slice_get xs i ≡ None

@@ -8,12 +8,12 @@ use Rattle.std.proofs.lemmas.List.{get_or_append_left}
 use Rattle.std.proofs.lemmas.Option.{get_or_from_slice_get, slice_get-get_or, slice_get_within}
 use Rattle.spec_avro.specs.Node.{Node}
 use Rattle.spec_avro.specs.declared.mismatch.Mismatch.{Mismatch}
-use Rattle.isa.specs.declared.entry.Entry.{Entry}
-use Rattle.program_definition.specs.Numbering.{entry_of}
+use Rattle.spec_machine.specs.declared.entry.Entry.{Entry}
+use Rattle.spec_machine.specs.Numbering.{entry_of}
 use Rattle.program_ir.specs.Statements.{targets_of}
 use Rattle.program_ir.specs.Sections.{pair_cmp}
 use Rattle.program_compiler.specs.Tables.{AreShared}
-use Rattle.program_ir.proofs.Tables.{nat_at, then_at}
+use Rattle.program_ir.proofs.Numbered.{nat_at, then_at}
 
 longer : (xs : List (List Entry)) (x a : List Entry) (n : ℕ) → slice_get xs n ≡ Some a → slice_get (xs ++ x ∷ []) n ≡ Some a
 longer xs x a n e =

@@ -2,9 +2,9 @@
 use Rattle.std.proofs.Common.{◌≡◌, ℕ, zero, suc, ◌+◌, Bool, true, false, List, [], ◌∷◌, ◌++◌, length, take, Some, refl, sym, ap, ◌∙◌, arith, length-append, append_assoc}
 use Rattle.std.specs.Prelude.{slice_get, slice_index_or, if◌then◌else◌}
 use Rattle.spec_avro.specs.Options.{given}
-use Rattle.program_definition.specs.Code.{statements_of, start_in}
-use Rattle.program_definition.specs.Statements.{Statement, Section}
-use Rattle.program_definition.specs.Numbering.{adding, calls_of, named_in, same_section}
+use Rattle.spec_machine.specs.Code.{statements_of, start_in}
+use Rattle.spec_machine.specs.Statements.{Statement, Section}
+use Rattle.spec_machine.specs.Numbering.{adding, calls_of, named_in, same_section}
 use Rattle.program_definition.proofs.Numbers.{Extends, added, section_refl}
 use Rattle.program_ir.specs.Sections.{place_from}
 

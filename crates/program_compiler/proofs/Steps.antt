@@ -2,10 +2,10 @@
 use Rattle.std.proofs.Common.{◌≡◌, ℕ, zero, suc, ◌-◌, List, [], ◌∷◌, ◌++◌, Some, refl, sym, ap, ◌∙◌, arith, append_assoc}
 use Rattle.std.specs.Prelude.{slice_get}
 use Rattle.spec_avro.specs.Node.{Node}
-use Rattle.isa.specs.declared.instr.Instr.{Instr}
-use Rattle.program_definition.specs.Statements.{Statement, Lost, looped}
-use Rattle.program_definition.specs.Skipping.{skip_node, skip_within}
-use Rattle.program_definition.specs.Writing.{write_node, write_within}
+use Rattle.spec_machine.specs.declared.instr.Instr.{Instr}
+use Rattle.spec_machine.specs.Statements.{Statement, Lost, looped}
+use Rattle.spec_machine.specs.Skipping.{skip_node, skip_within}
+use Rattle.spec_machine.specs.Writing.{write_node, write_within}
 use Rattle.program_ir.specs.declared.statements.Statement as rust
 use Rattle.program_ir.specs.Statements.{statements_in}
 

@@ -2,8 +2,8 @@
 use Rattle.std.proofs.Common.{◌≡◌, ℕ, suc, ◌+◌, ◌<◌, drop, get_or, Bool, List, ◌++◌, length, sym, ap, ◌∙◌, arith}
 use Rattle.std.proofs.Math.Seq.{drop-cons}
 use Rattle.spec_avro.specs.Node.{Node}
-use Rattle.program_definition.specs.Statements.{Statement}
-use Rattle.program_definition.specs.Numbering.{adding, named_in}
+use Rattle.spec_machine.specs.Statements.{Statement}
+use Rattle.spec_machine.specs.Numbering.{adding, named_in}
 use Rattle.program_ir.specs.declared.statements.Statement as rust
 use Rattle.program_ir.specs.Statements.{statement_of, statements_in}
 use Rattle.program_ir.proofs.Tables.{adding_on}

@@ -3,11 +3,11 @@ use Rattle.std.proofs.Common.{◌≡◌, ℕ, zero, suc, ◌+◌, ◌-◌, ◌<�
 use Rattle.std.specs.Prelude.{slice_get}
 use Rattle.std.proofs.Math.Seq.{take-length}
 use Rattle.spec_avro.specs.Node.{Node}
-use Rattle.isa.specs.declared.limits.TheConstants.{MOST_INSTRS}
-use Rattle.program_definition.specs.Code.{code_of, statements_of}
-use Rattle.program_definition.specs.Statements.{Section, Main, Statement}
-use Rattle.program_definition.specs.Numbering.{adding, calls_of, named_in, same_section}
-use Rattle.program_definition.specs.Writing.{section}
+use Rattle.spec_machine.specs.declared.limits.TheConstants.{MOST_INSTRS}
+use Rattle.spec_machine.specs.Code.{code_of, statements_of}
+use Rattle.spec_machine.specs.Statements.{Section, Main, Statement}
+use Rattle.spec_machine.specs.Numbering.{adding, calls_of, named_in, same_section}
+use Rattle.spec_machine.specs.Writing.{section}
 use Rattle.program_definition.proofs.Going.{Going, done, going_init, going_on, no_room, rounds_left}
 use Rattle.program_ir.specs.declared.statements.Statement as rust
 use Rattle.program_ir.specs.Statements.{statements_in}

@@ -10,9 +10,9 @@ use Rattle.spec_avro.specs.declared.place.Destination.{Destination}
 use Rattle.spec_avro.specs.Matching.{place}
 use Rattle.spec_avro.specs.Options.{given}
 use Rattle.spec_avro.specs.declared.mismatch.MismatchKind.TheVariants as misses
-use Rattle.program_definition.specs.Statements.{Statement, Call, Lost, Miss, Write, miss}
-use Rattle.program_definition.specs.Skipping.{K}
-use Rattle.program_definition.specs.Writing.{placed_node, record_code, straight_node, write_node}
+use Rattle.spec_machine.specs.Statements.{Statement, Call, Lost, Miss, Write, miss}
+use Rattle.spec_machine.specs.Skipping.{K}
+use Rattle.spec_machine.specs.Writing.{placed_node, record_code, straight_node, write_node}
 use Rattle.spec_avro.specs.Resolution.{lacking}
 
 pub straight_more : (W R : List Node) (F : ℕ → ℕ → List Statement) (w r : ℕ) (reader : Option Node) (node : Node) (old new code : List Statement) → slice_get W w ≡ Some node → straight_node W R F w r (Some node) reader ≡ code → new ≡ old ++ code → new ≡ old ++ straight_node W R F w r (slice_get W w) reader

@@ -1,8 +1,8 @@
 -- What compiling a pair of schemas answers. This project's own.
 use Rattle.std.specs.Prelude.{◌≡◌, List, Some, None, Result, Ok, Err}
 use Rattle.spec_avro.specs.Node.{Node}
-use Rattle.isa.specs.Program.{Program}
-use Rattle.program_definition.specs.Code.{code_of}
+use Rattle.spec_machine.specs.Program.{Program}
+use Rattle.spec_machine.specs.Code.{code_of}
 use Rattle.program_compiler.specs.declared.error.CompileError.{CompileError}
 use Rattle.program_compiler.specs.declared.error.CompileError.TheVariants.{ProgramTooLarge, NoMemory}
 

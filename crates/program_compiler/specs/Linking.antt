@@ -1,7 +1,7 @@
 -- Instructions with a number, by what they are. This project's own.
 use Rattle.std.specs.Prelude.{ℕ}
-use Rattle.isa.specs.declared.instr.Instr.{Instr}
-use Rattle.isa.specs.declared.instr.Instr.TheVariants as op
+use Rattle.spec_machine.specs.declared.instr.Instr.{Instr}
+use Rattle.spec_machine.specs.declared.instr.Instr.TheVariants as op
 use Rattle.program_compiler.specs.declared.linking.Numbered.{Numbered}
 use Rattle.program_compiler.specs.declared.linking.Numbered.TheVariants as kinds
 use Rattle.program_ir.specs.Statements.{go_of}

@@ -5,14 +5,15 @@ use Rattle.std.specs.Global.{Vec}
 use Rattle.std.specs.List.{AllByRecursion}
 use Rattle.std.specs.Str.{bytes_eq}
 use Rattle.spec_avro.specs.declared.limits.TheConstants.{MOST_OUTPUT}
-use Rattle.isa.specs.declared.entry.Entry.{Entry}
-use Rattle.isa.specs.declared.instr.Instr.{Instr}
+use Rattle.spec_machine.specs.declared.entry.Entry.{Entry}
+use Rattle.spec_machine.specs.declared.instr.Instr.{Instr}
 use Rattle.isa.specs.declared.parts.Parts.{Parts}
-use Rattle.isa.specs.Program.{Program, program_of}
-use Rattle.program_definition.specs.Code.{are_whole}
-use Rattle.isa.specs.Range.{InstrIsInRange, IsProgram, IsWithinLimits, sizes_of}
-use Rattle.program_definition.specs.Statements.{Statement}
-use Rattle.program_definition.specs.Numbering.{adding, constants_of, named_in}
+use Rattle.spec_machine.specs.Program.{Program}
+use Rattle.isa.specs.Program.{program_of}
+use Rattle.spec_machine.specs.Code.{are_whole}
+use Rattle.spec_machine.specs.Range.{InstrIsInRange, IsProgram, IsWithinLimits, sizes_of}
+use Rattle.spec_machine.specs.Statements.{Statement}
+use Rattle.spec_machine.specs.Numbering.{adding, constants_of, named_in}
 use Rattle.program_compiler.specs.declared.error.CompileError.{CompileError}
 use Rattle.program_compiler.specs.declared.error.CompileError.TheVariants.{ProgramTooLarge, NoMemory}
 

@@ -6,8 +6,8 @@ use Rattle.std.specs.List.{AllByRecursion}
 use Rattle.std.specs.Str.{bytes_eq}
 use Rattle.spec_avro.specs.declared.mismatch.Mismatch.{Mismatch}
 use Rattle.spec_avro.specs.Node.{Node}
-use Rattle.isa.specs.declared.entry.Entry.{Entry}
-use Rattle.program_definition.specs.Numbering.{entry_of, has, lacked, same_miss}
+use Rattle.spec_machine.specs.declared.entry.Entry.{Entry}
+use Rattle.spec_machine.specs.Numbering.{entry_of, has, lacked, same_miss}
 use Rattle.program_ir.specs.Tables.{found}
 use Rattle.program_ir.specs.declared.statements.Constant.TheVariants.{Default}
 use Rattle.program_ir.specs.Statements.{bytes_of, targets_of}

@@ -2,10 +2,10 @@
 use Rattle.std.specs.Prelude.{◌≡◌, ℕ, List, length, None, Result, Ok, Err, slice_index_or}
 use Rattle.spec_avro.specs.Node.{Node}
 use Rattle.spec_avro.specs.Options.{given}
-use Rattle.program_definition.specs.Code.{checked, code_of, start_in}
-use Rattle.program_definition.specs.Statements.{Section}
-use Rattle.program_definition.specs.Numbering.{numbered}
-use Rattle.program_definition.specs.Writing.{section}
+use Rattle.spec_machine.specs.Code.{checked, code_of, start_in}
+use Rattle.spec_machine.specs.Statements.{Section}
+use Rattle.spec_machine.specs.Numbering.{numbered}
+use Rattle.spec_machine.specs.Writing.{section}
 use Rattle.program_compiler.specs.declared.error.CompileError.{CompileError}
 use Rattle.program_compiler.specs.declared.error.CompileError.TheVariants.{ProgramTooLarge, NoMemory}
 use Rattle.program_ir.specs.declared.statements.Statement as rust

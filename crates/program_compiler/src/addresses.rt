@@ -2,7 +2,7 @@
 
 ghost use Rattle.std.specs.Prelude.{◌≡◌, ◌+◌, ◌++◌, List, map, IfOk, MatchOption};
 ghost use Rattle.spec_avro.specs.Node.{Node};
-ghost use Rattle.program_definition.specs.Numbering.{jumps_from, jumps_of};
+ghost use Rattle.spec_machine.specs.Numbering.{jumps_from, jumps_of};
 ghost use Rattle.program_compiler.specs.Parts.{AreWide, IsWide, Narrows};
 ghost use Rattle.program_ir.specs.Statements.{statement_of, statements_in};
 

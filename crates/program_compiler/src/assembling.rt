@@ -2,8 +2,8 @@
 
 ghost use Rattle.std.specs.Prelude.{◌≡◌, ◌≤◌, List, length, true};
 ghost use Rattle.spec_avro.specs.Node.{Node};
-ghost use Rattle.program_definition.specs.Numbering.{constants_in, misses_in, numbered};
-ghost use Rattle.program_definition.specs.Code.{are_whole as are_whole_statements, is_lost as is_lost_statement};
+ghost use Rattle.spec_machine.specs.Numbering.{constants_in, misses_in, numbered};
+ghost use Rattle.spec_machine.specs.Code.{are_whole as are_whole_statements, is_lost as is_lost_statement};
 ghost use Rattle.program_compiler.specs.Parts.{Assembles, LinksTables};
 ghost use Rattle.program_compiler.specs.Tables.{AreDefaults};
 ghost use Rattle.program_ir.specs.Statements.{statement_of, statements_in};

@@ -5,7 +5,7 @@ ghost use Rattle.spec_avro.specs.Writing.{written};
 ghost use Rattle.avro_types.specs.Datum.{datum_of};
 ghost use Rattle.spec_avro.specs.Node.{Node};
 ghost use Rattle.spec_avro.specs.declared.limits.TheConstants.{MOST_OUTPUT};
-ghost use Rattle.program_definition.specs.Numbering.{constants_of, named_in};
+ghost use Rattle.spec_machine.specs.Numbering.{constants_of, named_in};
 ghost use Rattle.program_compiler.specs.Parts.{Notes};
 ghost use Rattle.program_compiler.specs.Tables.{AreDefaults};
 ghost use Rattle.program_ir.specs.declared.statements.Constant.TheVariants.{Default};

@@ -4,8 +4,8 @@ ghost use Rattle.std.specs.Prelude.{◌≡◌, ◌+◌, ◌<◌, ◌≤◌, ◌�
 ghost use Rattle.std.specs.Str.{bytes_eq};
 ghost use Rattle.spec_avro.specs.Node.{Node};
 ghost use Rattle.spec_avro.specs.declared.limits.TheConstants.{MOST_OUTPUT};
-ghost use Rattle.isa.specs.declared.instr.Instr.TheVariants as op;
-ghost use Rattle.program_definition.specs.Numbering.{code_from, jumps_of, maps_of, number, linked as instr_of};
+ghost use Rattle.spec_machine.specs.declared.instr.Instr.TheVariants as op;
+ghost use Rattle.spec_machine.specs.Numbering.{code_from, jumps_of, maps_of, number, linked as instr_of};
 ghost use Rattle.program_compiler.specs.Linking.{instr_with};
 ghost use Rattle.program_compiler.specs.Tables.{AreDefaults};
 ghost use Rattle.program_compiler.specs.Parts.{Links, LinksAll, LinksTo, Narrows};

@@ -1,7 +1,7 @@
 //! What the symbols of enums become: the maps of a program.
 
 ghost use Rattle.std.specs.Prelude.{◌≡◌, ◌≤◌, ◌++◌, ◌∷◌, [], length, map, slice_get, string_bytes, IfOk, OnOk};
-ghost use Rattle.program_definition.specs.Numbering.{entry_of, maps_of, named_in};
+ghost use Rattle.spec_machine.specs.Numbering.{entry_of, maps_of, named_in};
 ghost use Rattle.program_ir.specs.Statements.{statement_of, statements_in, symbols_of, targets_of};
 ghost use Rattle.program_compiler.specs.Tables.{AreShared};
 

@@ -1,8 +1,8 @@
 //! The misses of a program.
 
 ghost use Rattle.std.specs.Prelude.{◌≡◌, ◌∷◌, [], slice_get, IfOk, OnOk};
-ghost use Rattle.program_definition.specs.Numbering.{adding, lacked, misses_in, misses_of, same_miss};
-ghost use Rattle.program_definition.specs.Writing.{target};
+ghost use Rattle.spec_machine.specs.Numbering.{adding, lacked, misses_in, misses_of, same_miss};
+ghost use Rattle.spec_machine.specs.Writing.{target};
 ghost use Rattle.program_ir.specs.Statements.{statement_of, statements_in, targets_of};
 ghost use Rattle.program_compiler.specs.Tables.{AreNoted};
 

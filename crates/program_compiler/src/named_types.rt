@@ -2,7 +2,8 @@
 
 ghost use Rattle.std.specs.Prelude.{◌≡◌, ◌==◌, ◌&&◌, ◌||◌, IfOk, OnOk, ℕ, List, Some};
 ghost use Rattle.std.specs.Str.{bytes_eq};
-ghost use Rattle.avro_types.specs.Node.{names_of, node_of};
+ghost use Rattle.spec_avro.specs.Node.{names_of};
+ghost use Rattle.avro_types.specs.Node.{node_of};
 ghost use Rattle.spec_avro.specs.Symbols.{is_used};
 ghost use Rattle.program_compiler.specs.NamedTypes.{AreTypesOf, is_among, last_parts, nodes_under, stands_under, unqualified_names};
 

@@ -2,7 +2,7 @@
 
 ghost use Rattle.std.specs.Prelude.{◌≡◌, ◌++◌, ◌<◌, length, map, IfOk, OnOk};
 ghost use Rattle.std.specs.List.{AllByRecursion};
-ghost use Rattle.program_definition.specs.Skipping.{K, skip_within};
+ghost use Rattle.spec_machine.specs.Skipping.{K, skip_within};
 ghost use Rattle.program_ir.specs.Statements.{statements_in, parts_in};
 
 use crate::schema_pair::SchemaPair;
@@ -14,7 +14,7 @@ use std::alloc::AllocError;
 impl SchemaPair<'_> {
     /// Adds the statements that skip a node, down to `levels` levels of nodes; below them there is no code (`Lost`).
     #[cycle(skip)]
-    #[tactic(auto, unfolding(program_definition::specs::Skipping::skip_within))]
+    #[tactic(auto, unfolding(spec_machine::specs::Skipping::skip_within))]
     fn skip_within(
         &self,
         n: usize,

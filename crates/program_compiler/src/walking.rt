@@ -1,7 +1,7 @@
 //! The statements of all sections, in the order in which they are called for.
 
 ghost use Rattle.std.specs.Prelude.{◌≡◌, ◌∷◌, []};
-ghost use Rattle.program_definition.specs.Statements.{Main};
+ghost use Rattle.spec_machine.specs.Statements.{Main};
 ghost use Rattle.program_ir.specs.Statements.{section_of};
 ghost use Rattle.program_compiler.specs.Known.{AreKnown};
 ghost use Rattle.program_compiler.specs.Walking.{Fills, Walks, start_at};

@@ -4,12 +4,12 @@ ghost use Rattle.std.specs.Prelude.{◌≡◌, ◌++◌, ◌∷◌, ◌<◌, [],
 ghost use Rattle.std.specs.List.{AllByRecursion};
 ghost use Rattle.spec_avro.specs.Node.{Node};
 ghost use Rattle.spec_avro.specs.declared.mismatch.MismatchKind.TheVariants as kinds;
-ghost use Rattle.isa.specs.declared.instr.Instr.TheVariants as op;
+ghost use Rattle.spec_machine.specs.declared.instr.Instr.TheVariants as op;
 ghost use Rattle.resolver.specs.Matching.{ArePair};
 ghost use Rattle.spec_avro.specs.Matching.{place};
 ghost use Rattle.spec_avro.specs.Options.{given};
-ghost use Rattle.program_definition.specs.Statements.{BytesText, Lost, Op, looped, miss};
-ghost use Rattle.program_definition.specs.Writing.{X, is_text, placed_node, record_code, straight_node, write_within};
+ghost use Rattle.spec_machine.specs.Statements.{BytesText, Lost, Op, looped, miss};
+ghost use Rattle.spec_machine.specs.Writing.{X, is_text, placed_node, record_code, straight_node, write_within};
 ghost use Rattle.spec_avro.specs.Resolution.{field_lists, lacking};
 ghost use Rattle.program_compiler.specs.Known.{AreKnown};
 ghost use Rattle.program_ir.specs.Statements.{statements_in, parts_in};

@@ -3,8 +3,8 @@ use Rattle.std.proofs.Common.{replicate, ◌≡◌, ℕ, zero, suc, ◌+◌, ◌
 use Rattle.std.specs.Prelude.{nat_lt}
 use Rattle.std.proofs.lemmas.List.{length-map}
 use Rattle.spec_avro.specs.Blocks.{joined}
-use Rattle.isa.specs.Lists.{total_length}
-use Rattle.isa.specs.State.{Blocks, Frame, Rec, Skip, SkipBlocks, add_to_slot, empty_buffers, frames_size, frames_with, has_current, out_with}
+use Rattle.spec_machine.specs.Lengths.{total_length}
+use Rattle.spec_machine.specs.State.{Blocks, Frame, Rec, Skip, SkipBlocks, add_to_slot, empty_buffers, frames_size, frames_with, has_current, out_with}
 
 -- ---- slots
 

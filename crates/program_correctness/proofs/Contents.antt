@@ -5,14 +5,14 @@ use Rattle.std.proofs.Math.Seq.{take-add}
 use Rattle.std.proofs.lemmas.Str.{IsUtf8-nil, is_utf8-from_IsUtf8}
 use Rattle.std.proofs.lemmas.List.{drop-drop}
 use Rattle.spec_avro.specs.declared.meter.Meter.{Meter}
-use Rattle.avro_bytes.specs.Decoding.{Decoding, Complete, Failed, ◌>>=◌}
+use Rattle.spec_decoding.specs.Decoding.{Decoding, Complete, Failed, ◌>>=◌}
 use Rattle.avro_bytes.specs.Laws.Lengths.{length_sound}
 use Rattle.avro_bytes.specs.Laws.Numbers.{number_some}
-use Rattle.avro_bytes.specs.Length.{length_at}
+use Rattle.spec_decoding.specs.LengthDecoding.{length_at}
 use Rattle.spec_avro.specs.Number.{long_limit}
 use Rattle.avro_bytes.specs.Text.{utf8_only}
-use Rattle.isa.specs.State.{State, Store, miss}
-use Rattle.isa.specs.Table.{Move, anything, only_text, or_miss}
+use Rattle.spec_machine.specs.State.{State, Store, miss}
+use Rattle.spec_machine.specs.Table.{Move, anything, only_text, or_miss}
 
 -- what becomes of one that is no UTF-8
 pub data Check : Type 0 where

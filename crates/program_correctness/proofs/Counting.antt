@@ -2,23 +2,23 @@
 use Rattle.std.proofs.Common.{replicate, ◌≡◌, ℕ, ◌+◌, Bool, true, List, [], ◌∷◌, length, Option, Some, None, refl, ap, ◌∙◌, arith, slice_get}
 use Rattle.std.specs.Prelude.{nat_lt, option_map, slice_index_or}
 use Rattle.spec_avro.specs.declared.malformed.MalformedKind.TheVariants.{BadBranch, BadEnum}
-use Rattle.avro_bytes.specs.Boolean.{boolean_at}
+use Rattle.spec_decoding.specs.BooleanDecoding.{boolean_at}
 use Rattle.spec_avro.specs.Boolean.{boolean_byte}
-use Rattle.avro_bytes.specs.Meter.{opened_blocks, opened_record}
+use Rattle.spec_decoding.specs.Opening.{opened_blocks, opened_record}
 use Rattle.spec_avro.specs.Number.{int_limit, long_limit}
-use Rattle.avro_bytes.specs.NumberDecoding.{number_at}
-use Rattle.avro_bytes.specs.Position.{position_at}
+use Rattle.spec_decoding.specs.NumberDecoding.{number_at}
+use Rattle.spec_decoding.specs.PositionDecoding.{position_at}
 use Rattle.spec_avro.specs.Shortest.{shortest}
-use Rattle.avro_bytes.specs.Walk.{first_walk}
-use Rattle.isa.specs.declared.entry.Entry.TheVariants as entries
-use Rattle.isa.specs.declared.instr.Instr.{Instr}
-use Rattle.isa.specs.declared.instr.Instr.TheVariants as op
-use Rattle.isa.specs.declared.end.Trap.TheVariants.{TooManyCalls}
-use Rattle.isa.specs.declared.limits.TheConstants.{MOST_CALLS}
-use Rattle.isa.specs.Program.{Program, constant_of, jumps_of, map_of}
-use Rattle.isa.specs.Row.{counted, kept, row, row_at, row_of, skipped}
-use Rattle.isa.specs.State.{Blocks, End, Rec, Skip, SkipBlocks, State, meter_of}
-use Rattle.isa.specs.Table.{added, anything, prefixed, entered, fixed, next, only_text, or_miss, trap}
+use Rattle.spec_decoding.specs.Walk.{first_walk}
+use Rattle.spec_machine.specs.declared.entry.Entry.TheVariants as entries
+use Rattle.spec_machine.specs.declared.instr.Instr.{Instr}
+use Rattle.spec_machine.specs.declared.instr.Instr.TheVariants as op
+use Rattle.spec_machine.specs.declared.trap.Trap.TheVariants.{TooManyCalls}
+use Rattle.spec_machine.specs.declared.limits.TheConstants.{MOST_CALLS}
+use Rattle.spec_machine.specs.Program.{Program, constant_of, jumps_of, map_of}
+use Rattle.spec_machine.specs.Row.{counted, kept, row, row_at, row_of, skipped}
+use Rattle.spec_machine.specs.State.{Blocks, End, Rec, Skip, SkipBlocks, State, meter_of}
+use Rattle.spec_machine.specs.Table.{added, anything, prefixed, entered, fixed, next, only_text, or_miss, trap}
 use Rattle.program_correctness.proofs.Plain.{plain_row, unless_ended}
 use Rattle.program_correctness.proofs.SameParts.{counted_as, same_reads, same_cond, same_current, same_adding, same_content, same_fixed, kept_same, skipped_same, same_select, same_close, same_leave, same_next, same_skip_next, same_return, same_halt, same_opens, same_entered}
 

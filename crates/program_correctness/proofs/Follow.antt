@@ -2,13 +2,14 @@
 use Rattle.std.proofs.Common.{◌≡◌, ℕ, suc, ◌+◌, ◌*◌, ◌≤◌, true, List, length, Option, Some, refl, ◌∙◌, subst, arith}
 use Rattle.spec_avro.specs.declared.malformed.MalformedKind.TheVariants.{Truncated}
 use Rattle.spec_avro.specs.declared.meter.Meter.{Meter}
-use Rattle.avro_bytes.specs.Decoding.{Decoding, Complete, Failed, ◌>>=◌, map_decoding}
+use Rattle.spec_decoding.specs.Decoding.{Decoding, Complete, Failed, ◌>>=◌}
+use Rattle.avro_bytes.specs.Decoding.{map_decoding}
 use Rattle.spec_avro.specs.Defect.{Defect, Malformed, Need}
 use Rattle.spec_avro.specs.Outcome.{Outcome}
 use Rattle.spec_avro.specs.Outcome as outcomes
-use Rattle.isa.specs.Program.{Program}
-use Rattle.isa.specs.State.{Out, State}
-use Rattle.isa.specs.Table.{reads, stop}
+use Rattle.spec_machine.specs.Program.{Program}
+use Rattle.spec_machine.specs.State.{Out, State}
+use Rattle.spec_machine.specs.Table.{reads, stop}
 use Rattle.program_correctness.proofs.Plain.{plain_row}
 
 module _ (P : Program) (p : List ℕ) (L : ℕ) where

@@ -5,7 +5,7 @@ use Rattle.std.specs.Prelude.{nat_lt}
 use Rattle.spec_avro.specs.declared.limits.TheConstants.{MOST_OUTPUT}
 use Rattle.spec_avro.specs.declared.mismatch.Mismatch.{Mismatch}
 use Rattle.spec_avro.specs.Resolution.{Resolved, ◌>>=◌}
-use Rattle.isa.specs.State.{Frame, Store, frames_size, size_of, empty_buffers, has_current, add}
+use Rattle.spec_machine.specs.State.{Frame, Store, frames_size, size_of, empty_buffers, has_current, add}
 use Rattle.program_correctness.proofs.Buffers.{current_emptied, emptied_frames, emptied_length}
 use Rattle.program_correctness.proofs.Marks.{add_stamp, stamp, stamp_add, stamp_fits, stamp_push, stamp_twice}
 use Rattle.program_correctness.proofs.Numbers.{past_still}

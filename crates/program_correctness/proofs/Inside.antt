@@ -2,22 +2,22 @@
 use Rattle.std.proofs.Common.{replicate, ◌≡◌, ℕ, ◌+◌, ◌≤◌, true, List, [], ◌∷◌, length, Option, Some, None, subst, slice_get}
 use Rattle.std.specs.Prelude.{nat_lt, slice_index_or}
 use Rattle.spec_avro.specs.declared.malformed.MalformedKind.TheVariants.{BadBranch, BadEnum}
-use Rattle.avro_bytes.specs.Boolean.{boolean_at}
+use Rattle.spec_decoding.specs.BooleanDecoding.{boolean_at}
 use Rattle.spec_avro.specs.Boolean.{boolean_byte}
-use Rattle.avro_bytes.specs.Meter.{opened_blocks, opened_record}
+use Rattle.spec_decoding.specs.Opening.{opened_blocks, opened_record}
 use Rattle.spec_avro.specs.Number.{int_limit, long_limit}
-use Rattle.avro_bytes.specs.NumberDecoding.{number_at}
-use Rattle.avro_bytes.specs.Position.{position_at}
+use Rattle.spec_decoding.specs.NumberDecoding.{number_at}
+use Rattle.spec_decoding.specs.PositionDecoding.{position_at}
 use Rattle.spec_avro.specs.Shortest.{shortest}
-use Rattle.avro_bytes.specs.Walk.{first_walk}
-use Rattle.isa.specs.declared.entry.Entry.TheVariants as entries
-use Rattle.isa.specs.declared.instr.Instr.{Instr}
-use Rattle.isa.specs.declared.instr.Instr.TheVariants as op
-use Rattle.isa.specs.declared.limits.TheConstants.{MOST_CALLS}
-use Rattle.isa.specs.Program.{Program, jumps_of, map_of}
-use Rattle.isa.specs.Row.{kept, row, row_at, skipped}
-use Rattle.isa.specs.State.{Blocks, End, Rec, Skip, SkipBlocks, State, meter_of}
-use Rattle.isa.specs.Table.{added, anything, entered, next, only_text, or_miss}
+use Rattle.spec_decoding.specs.Walk.{first_walk}
+use Rattle.spec_machine.specs.declared.entry.Entry.TheVariants as entries
+use Rattle.spec_machine.specs.declared.instr.Instr.{Instr}
+use Rattle.spec_machine.specs.declared.instr.Instr.TheVariants as op
+use Rattle.spec_machine.specs.declared.limits.TheConstants.{MOST_CALLS}
+use Rattle.spec_machine.specs.Program.{Program, jumps_of, map_of}
+use Rattle.spec_machine.specs.Row.{kept, row, row_at, skipped}
+use Rattle.spec_machine.specs.State.{Blocks, End, Rec, Skip, SkipBlocks, State, meter_of}
+use Rattle.spec_machine.specs.Table.{added, anything, entered, next, only_text, or_miss}
 use Rattle.program_correctness.proofs.Follow.{Takes, a_row, no_row}
 use Rattle.program_correctness.proofs.InsideParts.{AllIn, In, cond_in, current_in, reads_in, opens_in, boolean_in, int_in, long_in, position_in, content_in, fixed_in, any_still, text_still, miss_still, any_skip_still, text_skip_still, select_in, close_in, leave_in, next_in, skip_next_in, entered_in, return_in, halt_in}
 use Rattle.program_correctness.proofs.Plain.{plain_row, unless_ended}

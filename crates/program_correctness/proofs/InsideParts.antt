@@ -2,17 +2,17 @@
 use Rattle.std.proofs.Common.{◌≡◌, ℕ, zero, suc, ◌+◌, ◌-◌, ◌≤◌, Bool, true, false, cond, List, [], ◌∷◌, length, take, drop, Option, Some, None, Result, refl, sym, subst, arith, lit<, min}
 use Rattle.std.specs.Prelude.{nat_lt}
 use Rattle.std.specs.Str.{is_utf8}
-use Rattle.avro_bytes.specs.declared.fault.Fault.{Fault}
+use Rattle.spec_decoding.specs.declared.fault.Fault.{Fault}
 use Rattle.spec_avro.specs.declared.meter.Meter.{Meter}
-use Rattle.avro_bytes.specs.BlockDecoding.{next_item}
-use Rattle.avro_bytes.specs.Boolean.{boolean_at}
-use Rattle.avro_bytes.specs.Decoding.{Decoding, Complete, Failed, inside}
+use Rattle.spec_decoding.specs.BlockDecoding.{next_item}
+use Rattle.spec_decoding.specs.BooleanDecoding.{boolean_at}
+use Rattle.spec_decoding.specs.Decoding.{Decoding, Complete, Failed, inside}
 use Rattle.spec_avro.specs.Defect.{Malformed, Need}
-use Rattle.avro_bytes.specs.Length.{length_at}
+use Rattle.spec_decoding.specs.LengthDecoding.{length_at}
 use Rattle.spec_avro.specs.Number.{int_limit, long_limit}
-use Rattle.avro_bytes.specs.NumberDecoding.{number_at}
-use Rattle.avro_bytes.specs.Position.{position_at}
-use Rattle.avro_bytes.specs.Walk.{Walk}
+use Rattle.spec_decoding.specs.NumberDecoding.{number_at}
+use Rattle.spec_decoding.specs.PositionDecoding.{position_at}
+use Rattle.spec_decoding.specs.Walk.{Walk}
 use Rattle.avro_bytes.specs.Laws.Binds.{stands_within}
 use Rattle.avro_bytes.specs.Laws.BlockEnds.{end_sound}
 use Rattle.avro_bytes.specs.Laws.BlockSteps.{step_sound}
@@ -20,14 +20,15 @@ use Rattle.avro_bytes.specs.Laws.Booleans.{boolean_sound}
 use Rattle.avro_bytes.specs.Laws.Lengths.{length_sound}
 use Rattle.avro_bytes.specs.Laws.Numbers.{number_sound}
 use Rattle.avro_bytes.specs.Laws.Positions.{position_sound}
-use Rattle.isa.specs.declared.entry.Entry.{Entry}
-use Rattle.isa.specs.declared.entry.Entry.TheVariants as entries
-use Rattle.isa.specs.declared.limits.TheConstants.{MOST_CHUNK}
-use Rattle.isa.specs.Program.{Program}
-use Rattle.isa.specs.Row.{kept, skipped}
-use Rattle.isa.specs.State.{Blocks, Frame, Content, Rec, Skip, SkipBlocks, State, has_current, meter_of}
-use Rattle.isa.specs.Table.{Move, anything, begun, close_record, prefixed, ends_content, entered, finished, fixed, gathered, halt, if_current, leave, moved, moves, next, next_of, only_text, opens, or_miss, passed, pushed, reads, return, select, skip_next_of, wait, with_frames}
-use Rattle.program_correctness.proofs.Numbers.{least_is_first, least_is_second, lt_false}
+use Rattle.spec_machine.specs.declared.entry.Entry.{Entry}
+use Rattle.spec_machine.specs.declared.entry.Entry.TheVariants as entries
+use Rattle.spec_machine.specs.declared.limits.TheConstants.{MOST_CHUNK}
+use Rattle.spec_machine.specs.Program.{Program}
+use Rattle.spec_machine.specs.Row.{kept, skipped}
+use Rattle.spec_machine.specs.State.{Blocks, Frame, Content, Rec, Skip, SkipBlocks, State, has_current, meter_of}
+use Rattle.spec_machine.specs.Table.{Move, anything, begun, close_record, prefixed, ends_content, entered, finished, fixed, gathered, halt, if_current, leave, moved, moves, next, next_of, only_text, opens, or_miss, passed, pushed, reads, return, select, skip_next_of, wait, with_frames}
+use Rattle.program_correctness.proofs.Numbers.{least_is_first, least_is_second}
+use Rattle.isa.specs.Laws.Plain.{lt_false}
 use Rattle.program_correctness.proofs.Opening.{opening_is}
 
 module _ (P : Program) (p : List ℕ) where

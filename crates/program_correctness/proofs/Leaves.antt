@@ -5,12 +5,12 @@ use Rattle.std.specs.Str.{is_utf8}
 use Rattle.spec_avro.specs.declared.meter.Meter.{Meter}
 use Rattle.spec_avro.specs.declared.malformed.MalformedKind.TheVariants.{BadEnum}
 use Rattle.avro_bytes.specs.Blob.{content_at, fixed_at}
-use Rattle.avro_bytes.specs.Boolean.{boolean_at}
+use Rattle.spec_decoding.specs.BooleanDecoding.{boolean_at}
 use Rattle.spec_avro.specs.Boolean.{boolean_byte}
-use Rattle.avro_bytes.specs.Decoding.{Decoding, Complete, ◌>>=◌ as ◌>>◌}
+use Rattle.spec_decoding.specs.Decoding.{Decoding, Complete, ◌>>=◌ as ◌>>◌}
 use Rattle.spec_avro.specs.Number.{int_limit, long_limit}
-use Rattle.avro_bytes.specs.NumberDecoding.{number_at}
-use Rattle.avro_bytes.specs.Position.{position_at}
+use Rattle.spec_decoding.specs.NumberDecoding.{number_at}
+use Rattle.spec_decoding.specs.PositionDecoding.{position_at}
 use Rattle.spec_avro.specs.Shortest.{shortest}
 use Rattle.avro_bytes.specs.Text.{text_at}
 use Rattle.spec_avro.specs.Written.{after_length}
@@ -23,15 +23,15 @@ use Rattle.spec_avro.specs.declared.mismatch.Mismatch.{Mismatch}
 use Rattle.spec_avro.specs.declared.mismatch.MismatchKind.TheVariants as kinds
 use Rattle.spec_avro.specs.Options.{given}
 use Rattle.spec_avro.specs.Resolution.{Resolved, ◌>>=◌, symbol_for}
-use Rattle.isa.specs.declared.entry.Entry.{Entry}
-use Rattle.isa.specs.declared.entry.Entry.TheVariants as entries
-use Rattle.isa.specs.declared.instr.Instr.{Instr}
-use Rattle.isa.specs.declared.instr.Instr.TheVariants as op
-use Rattle.isa.specs.Program.{Program}
-use Rattle.isa.specs.Row.{row}
-use Rattle.isa.specs.State.{Content, State, Store, add, has_current, meter_of, miss}
-use Rattle.isa.specs.Table.{added, prefixed, entered, fixed, if_current, moves, next, reads}
-use Rattle.program_definition.specs.Statements.{miss as why_not}
+use Rattle.spec_machine.specs.declared.entry.Entry.{Entry}
+use Rattle.spec_machine.specs.declared.entry.Entry.TheVariants as entries
+use Rattle.spec_machine.specs.declared.instr.Instr.{Instr}
+use Rattle.spec_machine.specs.declared.instr.Instr.TheVariants as op
+use Rattle.spec_machine.specs.Program.{Program}
+use Rattle.spec_machine.specs.Row.{row}
+use Rattle.spec_machine.specs.State.{Content, State, Store, add, has_current, meter_of, miss}
+use Rattle.spec_machine.specs.Table.{added, prefixed, entered, fixed, if_current, moves, next, reads}
+use Rattle.spec_machine.specs.Statements.{miss as why_not}
 use Rattle.program_definition.specs.Stands.{AreEntries, IsEntry}
 use Rattle.program_correctness.proofs.Buffers.{current_emptied}
 use Rattle.program_correctness.proofs.Contents.{Anything, Check, OnlyText, OrMiss, Puts, checked, closed, move_of, unchecked}

@@ -1,6 +1,6 @@
 -- A store in which a miss is marked.
 use Rattle.std.proofs.Common.{◌≡◌, ℕ, Bool, true, List, [], ◌∷◌, Option, Some, None, refl, sym, ap, ◌∙◌}
-use Rattle.isa.specs.State.{Frame, Store, add, empty_buffers, frames_with, has_current, miss, out_with}
+use Rattle.spec_machine.specs.State.{Frame, Store, add, empty_buffers, frames_with, has_current, miss, out_with}
 use Rattle.program_correctness.proofs.Buffers.{emptied_added, emptied_frames, emptied_twice}
 use Rattle.program_correctness.proofs.Stores.{IsFit, add_is, fit, fit_frames, fit_mark, push, store}
 

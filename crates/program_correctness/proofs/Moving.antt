@@ -6,19 +6,20 @@ use Rattle.std.proofs.lemmas.List.{length-take-le}
 use Rattle.spec_avro.specs.declared.meter.Meter.{Meter}
 use Rattle.spec_avro.specs.declared.malformed.MalformedKind.TheVariants.{BadText, Truncated}
 use Rattle.avro_bytes.specs.Blob.{content_at, fixed_at}
-use Rattle.avro_bytes.specs.Decoding.{Decoding, Complete, Failed, ◌>>=◌}
+use Rattle.spec_decoding.specs.Decoding.{Decoding, Complete, Failed, ◌>>=◌}
 use Rattle.spec_avro.specs.Defect.{Malformed, Need}
-use Rattle.avro_bytes.specs.Length.{length_at}
+use Rattle.spec_decoding.specs.LengthDecoding.{length_at}
 use Rattle.spec_avro.specs.Shortest.{shortest}
 use Rattle.spec_avro.specs.Written.{after_length}
 use Rattle.spec_avro.specs.Outcome as outcomes
-use Rattle.isa.specs.declared.limits.TheConstants.{MOST_CHUNK}
-use Rattle.isa.specs.Program.{Program}
-use Rattle.isa.specs.State.{Out, Content, State, Store}
-use Rattle.isa.specs.Table.{begun, prefixed, fixed, moves, stop}
+use Rattle.spec_machine.specs.declared.limits.TheConstants.{MOST_CHUNK}
+use Rattle.spec_machine.specs.Program.{Program}
+use Rattle.spec_machine.specs.State.{Out, Content, State, Store}
+use Rattle.spec_machine.specs.Table.{begun, prefixed, fixed, moves, stop}
 use Rattle.program_correctness.proofs.Contents.{Anything, Check, OnlyText, OrMiss, Puts, checked, closed, closed_text, length_ahead, move_of, no_text, stretch, stretches, then_then, unless_of}
 use Rattle.program_correctness.proofs.Follow.{Follows, end_row, follows_so, one_row, reads_then, row_then, stay}
-use Rattle.program_correctness.proofs.Numbers.{least_below, least_is_second, lt_false, lt_no, lt_true, lt_yes}
+use Rattle.program_correctness.proofs.Numbers.{least_below, least_is_second, lt_true, lt_yes}
+use Rattle.isa.specs.Laws.Plain.{lt_false, lt_no}
 use Rattle.program_correctness.proofs.Plain.{between, meter, moving, plain_row}
 
 module _ (P : Program) (p : List ℕ) (L : ℕ) where

@@ -1,18 +1,13 @@
 -- Tests of numbers, as what they say.
 use Rattle.std.proofs.Common.{◌≡◌, ℕ, ◌+◌, ◌<◌, ◌≤◌, true, false, arith, min}
 use Rattle.std.specs.Prelude.{nat_lt}
+use Rattle.isa.specs.Laws.Plain.{lt_false, lt_no}
 
 pub lt_true : (a b : ℕ) → nat_lt a b ≡ true → a < b
 lt_true a b h = grind arith
 
-pub lt_false : (a b : ℕ) → nat_lt a b ≡ false → b ≤ a
-lt_false a b h = grind arith
-
 pub lt_yes : (a b : ℕ) → a < b → nat_lt a b ≡ true
 lt_yes a b h = grind arith
-
-pub lt_no : (a b : ℕ) → b ≤ a → nat_lt a b ≡ false
-lt_no a b h = grind arith
 
 pub past : (m a b : ℕ) → a ≤ b → nat_lt m a ≡ true → nat_lt m b ≡ true
 past m a b le h = grind arith

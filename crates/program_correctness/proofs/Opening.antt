@@ -1,14 +1,14 @@
 -- A row opens a record, an array or a map as decoding does.
 use Rattle.std.proofs.Common.{◌≡◌, ℕ, ◌+◌, ◌*◌, ◌≤◌, true, List, Ok, Err, Result, Some, refl, sym, ap, ◌∙◌, subst, arith}
-use Rattle.avro_bytes.specs.declared.fault.Fault.{Fault}
+use Rattle.spec_decoding.specs.declared.fault.Fault.{Fault}
 use Rattle.spec_avro.specs.declared.meter.Meter.{Meter}
-use Rattle.avro_bytes.specs.Decoding.{Decoding, Complete, ◌>>=◌, inside}
-use Rattle.avro_bytes.specs.Meter.{opened_blocks, opened_record}
+use Rattle.spec_decoding.specs.Decoding.{Decoding, Complete, ◌>>=◌, inside}
+use Rattle.spec_decoding.specs.Opening.{opened_blocks, opened_record}
 use Rattle.avro_bytes.specs.Laws.Binds.{complete_is}
 use Rattle.avro_bytes.specs.Laws.Meters.{blocks_were_opened, was_opened}
-use Rattle.isa.specs.Program.{Program}
-use Rattle.isa.specs.State.{Frame, State, meter_of}
-use Rattle.isa.specs.Table.{next, opens, pushed}
+use Rattle.spec_machine.specs.Program.{Program}
+use Rattle.spec_machine.specs.State.{Frame, State, meter_of}
+use Rattle.spec_machine.specs.Table.{next, opens, pushed}
 use Rattle.program_correctness.proofs.Follow.{Follows, reads_then}
 use Rattle.program_correctness.proofs.Plain.{plain_row}
 

@@ -3,9 +3,10 @@ use Rattle.std.proofs.Common.{◌≡◌, ℕ, zero, suc, ◌+◌, ◌-◌, ◌*�
 use Rattle.std.specs.Prelude.{slice_index_or}
 use Rattle.spec_avro.specs.declared.meter.Meter.{Meter}
 use Rattle.spec_avro.specs.declared.malformed.MalformedKind.TheVariants.{BadBranch}
-use Rattle.avro_bytes.specs.Decoding.{Complete, Failed, map_decoding}
+use Rattle.spec_decoding.specs.Decoding.{Complete, Failed}
+use Rattle.avro_bytes.specs.Decoding.{map_decoding}
 use Rattle.spec_avro.specs.Defect.{Need}
-use Rattle.avro_bytes.specs.Position.{position_at}
+use Rattle.spec_decoding.specs.PositionDecoding.{position_at}
 use Rattle.spec_avro.specs.Shortest.{shortest}
 use Rattle.avro_bytes.specs.Laws.Numbers.{number_some}
 use Rattle.avro_bytes.specs.Laws.Positions.{position_sound}
@@ -21,10 +22,10 @@ use Rattle.resolver.specs.Laws.Placed.{by_place}
 use Rattle.spec_avro.specs.Matching.{place}
 use Rattle.spec_avro.specs.Resolution.{Resolved, placed, ◌>>=◌, resolved}
 use Rattle.resolver.specs.Steps.{inside}
-use Rattle.isa.specs.declared.instr.Instr.TheVariants as op
-use Rattle.isa.specs.Program.{Program}
-use Rattle.isa.specs.State.{State}
-use Rattle.program_definition.specs.Statements.{Section, Skip, Write, miss as why_not}
+use Rattle.spec_machine.specs.declared.instr.Instr.TheVariants as op
+use Rattle.spec_machine.specs.Program.{Program}
+use Rattle.spec_machine.specs.State.{State}
+use Rattle.spec_machine.specs.Statements.{Section, Skip, Write, miss as why_not}
 use Rattle.program_definition.specs.SkipStands.{SkipRoutine}
 use Rattle.program_definition.specs.Stands.{Routine, Writes as CodeWrites, WritesMembers, WritesPlain, x_into, x_last, x_member, x_no_member, x_nowhere, x_plain, x_straight, x_union, x_unmatched}
 use Rattle.program_correctness.proofs.Effects.{bytes_of}

@@ -1,15 +1,16 @@
 -- Code that writes arrays and maps, and one part after another.
 use Rattle.std.proofs.Common.{◌≡◌, ℕ, suc, ◌+◌, ◌≤◌, List, [], length, Ok, Err, Some, refl, sym, ap, ◌∙◌, subst, arith, slice_get}
 use Rattle.spec_avro.specs.declared.meter.Meter.{Meter}
-use Rattle.avro_bytes.specs.Decoding.{◌>>=◌ as ◌>>◌, map_decoding}
-use Rattle.avro_bytes.specs.Walk.{first_walk}
+use Rattle.spec_decoding.specs.Decoding.{◌>>=◌ as ◌>>◌}
+use Rattle.avro_bytes.specs.Decoding.{map_decoding}
+use Rattle.spec_decoding.specs.Walk.{first_walk}
 use Rattle.spec_avro.specs.Written.{in_block}
 use Rattle.avro_bytes.specs.Laws.Meters.{blocks_were_opened, same_meter}
 use Rattle.avro_datum.specs.ItemDecoding.{Reader, blocks_at, items_at, steps_left}
 use Rattle.spec_avro.specs.Resolution.{Resolved, ◌>>=◌}
-use Rattle.isa.specs.declared.instr.Instr.TheVariants as op
-use Rattle.isa.specs.Program.{Program}
-use Rattle.isa.specs.State.{Blocks, State, Store}
+use Rattle.spec_machine.specs.declared.instr.Instr.TheVariants as op
+use Rattle.spec_machine.specs.Program.{Program}
+use Rattle.spec_machine.specs.State.{Blocks, State, Store}
 use Rattle.program_correctness.proofs.Effects.{both, effects}
 use Rattle.program_correctness.proofs.Follow.{Follows, follows_map, follows_so, follows_then}
 use Rattle.program_correctness.proofs.Holding.{Becomes, becomes_after, marked_on}

@@ -3,25 +3,26 @@ use Rattle.std.proofs.Common.{◌≡◌, ℕ, zero, suc, ◌+◌, ◌≤◌, tru
 use Rattle.spec_avro.specs.declared.meter.Meter.{Meter}
 use Rattle.spec_avro.specs.declared.malformed.MalformedKind.TheVariants.{BadEnum}
 use Rattle.avro_bytes.specs.Blob.{content_at, fixed_at}
-use Rattle.avro_bytes.specs.Boolean.{boolean_at}
-use Rattle.avro_bytes.specs.Decoding.{Decoding, Complete, ◌>>=◌, map_decoding}
+use Rattle.spec_decoding.specs.BooleanDecoding.{boolean_at}
+use Rattle.spec_decoding.specs.Decoding.{Decoding, Complete, ◌>>=◌}
+use Rattle.avro_bytes.specs.Decoding.{map_decoding}
 use Rattle.spec_avro.specs.Number.{int_limit, long_limit}
-use Rattle.avro_bytes.specs.NumberDecoding.{number_at}
-use Rattle.avro_bytes.specs.Position.{position_at}
+use Rattle.spec_decoding.specs.NumberDecoding.{number_at}
+use Rattle.spec_decoding.specs.PositionDecoding.{position_at}
 use Rattle.avro_bytes.specs.Text.{text_at}
-use Rattle.avro_bytes.specs.Walk.{first_walk}
+use Rattle.spec_decoding.specs.Walk.{first_walk}
 use Rattle.spec_avro.specs.Written.{after_length}
 use Rattle.avro_bytes.specs.Laws.Booleans.{boolean_sound}
 use Rattle.avro_bytes.specs.Laws.Meters.{blocks_were_opened, same_meter}
 use Rattle.avro_bytes.specs.Laws.Numbers.{number_sound}
 use Rattle.avro_bytes.specs.Laws.Positions.{position_sound}
 use Rattle.avro_datum.specs.ItemDecoding.{Reader, blocks_at, items_at, steps_left}
-use Rattle.isa.specs.declared.instr.Instr.{Instr}
-use Rattle.isa.specs.declared.instr.Instr.TheVariants as op
-use Rattle.isa.specs.Program.{Program}
-use Rattle.isa.specs.Row.{row}
-use Rattle.isa.specs.State.{Content, SkipBlocks, State, Store, meter_of}
-use Rattle.isa.specs.Table.{fixed, moves, next, reads}
+use Rattle.spec_machine.specs.declared.instr.Instr.{Instr}
+use Rattle.spec_machine.specs.declared.instr.Instr.TheVariants as op
+use Rattle.spec_machine.specs.Program.{Program}
+use Rattle.spec_machine.specs.Row.{row}
+use Rattle.spec_machine.specs.State.{Content, SkipBlocks, State, Store, meter_of}
+use Rattle.spec_machine.specs.Table.{fixed, moves, next, reads}
 use Rattle.program_correctness.proofs.Contents.{Anything, OnlyText, Puts, move_of, unchecked}
 use Rattle.program_correctness.proofs.Follow.{Follows, follows_map, follows_so, follows_then, reads_all, stay}
 use Rattle.program_correctness.proofs.Moving.{Landed, content_follows, fixed_follows}

@@ -1,10 +1,10 @@
 -- Rows before they are counted, and the states between them, whose count stays 0.
 use Rattle.std.proofs.Common.{◌≡◌, ℕ, true, List, length, Option, Some, None, refl, slice_get}
 use Rattle.spec_avro.specs.declared.meter.Meter.{Meter}
-use Rattle.isa.specs.declared.instr.Instr.{Instr}
-use Rattle.isa.specs.Program.{Program}
-use Rattle.isa.specs.State.{End, Content, State, Store}
-use Rattle.isa.specs.Row.{row, row_at}
+use Rattle.spec_machine.specs.declared.instr.Instr.{Instr}
+use Rattle.spec_machine.specs.Program.{Program}
+use Rattle.spec_machine.specs.State.{End, Content, State, Store}
+use Rattle.spec_machine.specs.Row.{row, row_at}
 
 -- a state in which some of a content is left, or none
 abbrev pub moving : Option Content → ℕ → ℕ → List ℕ → Store → ℕ → State

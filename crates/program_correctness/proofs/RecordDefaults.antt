@@ -4,11 +4,11 @@ use Rattle.spec_avro.specs.Node.{Node, FieldNode}
 use Rattle.spec_avro.specs.Writing.{written}
 use Rattle.spec_avro.specs.Partners.{routes}
 use Rattle.spec_avro.specs.Resolution.{Resolved, ◌>>=◌, Slots}
-use Rattle.isa.specs.declared.instr.Instr.TheVariants as op
-use Rattle.isa.specs.Lists.{total_length}
-use Rattle.isa.specs.Program.{Program}
-use Rattle.isa.specs.State.{Rec, Store, add, add_to_slot}
-use Rattle.program_definition.specs.Statements.{Section}
+use Rattle.spec_machine.specs.declared.instr.Instr.TheVariants as op
+use Rattle.spec_machine.specs.Lengths.{total_length}
+use Rattle.spec_machine.specs.Program.{Program}
+use Rattle.spec_machine.specs.State.{Rec, Store, add, add_to_slot}
+use Rattle.spec_machine.specs.Statements.{Section}
 use Rattle.program_definition.specs.Stands.{Defaults, no_default, none_put, one_put, partnered}
 use Rattle.program_correctness.proofs.Buffers.{new_slots, no_bytes, no_bytes_added}
 use Rattle.program_correctness.proofs.Follow.{Comes, comes_on, one_row, stay}

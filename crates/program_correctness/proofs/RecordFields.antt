@@ -1,17 +1,17 @@
 -- The fields of a record that is written: each goes into its slot, or is passed over.
 use Rattle.std.proofs.Common.{◌≡◌, ℕ, suc, ◌+◌, ◌-◌, ◌≤◌, List, [], ◌∷◌, length, Option, Some, Ok, refl, sym, ap, ◌∙◌, subst, arith}
 use Rattle.spec_avro.specs.declared.meter.Meter.{Meter}
-use Rattle.avro_bytes.specs.Decoding.{Complete, ◌>>=◌ as ◌>>◌}
+use Rattle.spec_decoding.specs.Decoding.{Complete, ◌>>=◌ as ◌>>◌}
 use Rattle.spec_avro.specs.Datum.{Datum, Data, more, how_many}
 use Rattle.spec_avro.specs.Node.{Node, FieldNode}
 use Rattle.avro_datum.specs.Decoding.{Decoder, fields_at}
 use Rattle.spec_avro.specs.declared.place.Route.{Route}
 use Rattle.resolver.specs.Laws.Fields.{GoTo}
 use Rattle.spec_avro.specs.Resolution.{Resolved, ◌>>=◌, Slots, resolved}
-use Rattle.isa.specs.Lists.{total_length}
-use Rattle.isa.specs.Program.{Program}
-use Rattle.isa.specs.State.{Rec, State, Store, add_to_slot}
-use Rattle.program_definition.specs.Statements.{Section}
+use Rattle.spec_machine.specs.Lengths.{total_length}
+use Rattle.spec_machine.specs.Program.{Program}
+use Rattle.spec_machine.specs.State.{Rec, State, Store, add_to_slot}
+use Rattle.spec_machine.specs.Statements.{Section}
 use Rattle.program_definition.specs.Stands.{Fields, Writes as CodeWrites, dropped, kept, no_field}
 use Rattle.program_correctness.proofs.Buffers.{new_slots, no_bytes, no_bytes_added}
 use Rattle.program_correctness.proofs.Effects.{bytes_of}

@@ -4,11 +4,11 @@ use Rattle.std.specs.Prelude.{nat_lt}
 use Rattle.spec_avro.specs.Blocks.{joined}
 use Rattle.spec_avro.specs.Node.{FieldNode}
 use Rattle.spec_avro.specs.Resolution.{Resolved}
-use Rattle.isa.specs.declared.instr.Instr.TheVariants as op
-use Rattle.isa.specs.Lists.{total_length}
-use Rattle.isa.specs.Program.{Program}
-use Rattle.isa.specs.State.{Frame, Rec, State, Store, add, add_to_slot, has_current}
-use Rattle.isa.specs.Table.{added, close_record, next, select, with_frames}
+use Rattle.spec_machine.specs.declared.instr.Instr.TheVariants as op
+use Rattle.spec_machine.specs.Lengths.{total_length}
+use Rattle.spec_machine.specs.Program.{Program}
+use Rattle.spec_machine.specs.State.{Frame, Rec, State, Store, add, add_to_slot, has_current}
+use Rattle.spec_machine.specs.Table.{added, close_record, next, select, with_frames}
 use Rattle.program_correctness.proofs.Buffers.{new_slots, new_slots_length, no_bytes, no_bytes_length, no_bytes_twice}
 use Rattle.program_correctness.proofs.Holding.{Holds, IsHolder, Top, top}
 use Rattle.program_correctness.proofs.Numbers.{lt_yes}

@@ -2,8 +2,8 @@
 use Rattle.std.proofs.Common.{◌≡◌, ℕ, suc, ◌+◌, ◌-◌, ◌≤◌, List, ◌∷◌, length, Some, None, Ok, Err, refl, sym, ap, ◌∙◌, subst, arith, slice_get}
 use Rattle.spec_avro.specs.declared.meter.Meter.{Meter}
 use Rattle.spec_avro.specs.Blocks.{joined}
-use Rattle.avro_bytes.specs.Decoding.{◌>>=◌ as ◌>>◌}
-use Rattle.avro_bytes.specs.Meter.{opened_record}
+use Rattle.spec_decoding.specs.Decoding.{◌>>=◌ as ◌>>◌}
+use Rattle.spec_decoding.specs.Opening.{opened_record}
 use Rattle.avro_bytes.specs.Laws.Meters.{same_meter, was_opened}
 use Rattle.spec_avro.specs.Datum.{Datum, Data, RecordDatum}
 use Rattle.spec_avro.specs.Node.{Node, FieldNode}
@@ -13,12 +13,12 @@ use Rattle.spec_avro.specs.Writing.{written}
 use Rattle.avro_datum.specs.Laws.Decoders.{Deeper}
 use Rattle.spec_avro.specs.Partners.{routes}
 use Rattle.spec_avro.specs.Resolution.{Resolved, ◌>>=◌, Slots, filled, no_slots, resolved_fields}
-use Rattle.isa.specs.declared.instr.Instr.TheVariants as op
-use Rattle.isa.specs.Lists.{total_length}
-use Rattle.isa.specs.Program.{Program}
-use Rattle.isa.specs.State.{Frame, Rec, State, Store, add}
-use Rattle.isa.specs.Table.{next, pushed}
-use Rattle.program_definition.specs.Statements.{Section}
+use Rattle.spec_machine.specs.declared.instr.Instr.TheVariants as op
+use Rattle.spec_machine.specs.Lengths.{total_length}
+use Rattle.spec_machine.specs.Program.{Program}
+use Rattle.spec_machine.specs.State.{Frame, Rec, State, Store, add}
+use Rattle.spec_machine.specs.Table.{next, pushed}
+use Rattle.spec_machine.specs.Statements.{Section}
 use Rattle.program_definition.specs.Stands.{Routine, Writes as CodeWrites}
 use Rattle.program_correctness.proofs.Buffers.{joined_length, new_slots, new_slots_empty, new_slots_size, no_bytes}
 use Rattle.program_correctness.proofs.Effects.{bytes_of}

@@ -1,7 +1,7 @@
 -- Stores at which `left` more records, arrays and maps may be opened.
 use Rattle.std.proofs.Common.{◌≡◌, ℕ, suc, ◌-◌, ◌≤◌, ◌<◌, true, List, length, refl, arith}
 use Rattle.spec_avro.specs.declared.limits.TheConstants.{MOST_DEPTH}
-use Rattle.isa.specs.State.{Store, has_current}
+use Rattle.spec_machine.specs.State.{Store, has_current}
 use Rattle.program_correctness.proofs.Stores.{IsFit}
 
 pub record HasRoom (left : ℕ) (calls : List ℕ) (s : Store) : Type 0 where

@@ -9,8 +9,10 @@ use Rattle.spec_avro.specs.declared.place.Route.{Route}
 use Rattle.spec_avro.specs.Options.{given}
 use Rattle.spec_avro.specs.Partners.{has_partner, partners, routes, routes_to}
 use Rattle.resolver.proofs.Apart.{partners_apart}
-use Rattle.resolver.specs.Laws.Fields.{GoTo, IsOneOf, length_partners, routes_go}
+use Rattle.resolver.specs.Laws.Fields.{GoTo, IsOneOf, length_partners, routes_go, set_other}
 use Rattle.spec_avro.specs.Resolution.{Slots, no_slots}
+use Rattle.resolver.specs.Laws.Plain.{either}
+use Rattle.std.proofs.lemmas.Bool.{or_right as or_second}
 
 equal_is : (a b : ℕ) → (a == b) ≡ true → a ≡ b
 equal_is a b e = grind (arith, nat_tests, e)
@@ -18,24 +20,9 @@ equal_is a b e = grind (arith, nat_tests, e)
 equal_same : (a : ℕ) → (a == a) ≡ true
 equal_same a = grind (arith, nat_tests)
 
-either : (a b : Bool) → (a || b) ≡ true → (a ≡ true) ⊎ (b ≡ true)
-either true b e = inl refl
-either false b e = inr e
-
 or_first : (a b : Bool) → a ≡ true → (a || b) ≡ true
 or_first true b e = refl
 or_first false b e = absurd cc
-
-or_second : (a b : Bool) → b ≡ true → (a || b) ≡ true
-or_second true b e = refl
-or_second false b e = e
-
-set_other : {X : Type 0} (xs : List X) (i j : ℕ) (x : X) → (i ≡ j → ⊥) → slice_get (slice_set xs i x) j ≡ slice_get xs j
-set_other [] i j x h = refl
-set_other (y ∷ xs) zero zero x h = absurd (h refl)
-set_other (y ∷ xs) zero (suc j) x h = refl
-set_other (y ∷ xs) (suc i) zero x h = refl
-set_other (y ∷ xs) (suc i) (suc j) x h = set_other xs i j x (λ e. h (ap suc e))
 
 -- ---- nodes and positions
 

@@ -4,15 +4,16 @@ use Rattle.std.specs.Prelude.{option_map}
 use Rattle.std.proofs.lemmas.Bool.{cases_lt}
 use Rattle.spec_avro.specs.Options.{given}
 use Rattle.isa.specs.Bounds.{IsBounded}
-use Rattle.isa.specs.Program.{Program}
-use Rattle.isa.specs.Row.{row_of}
-use Rattle.isa.specs.State.{End, State, start}
-use Rattle.program_correctness.specs.Alone.{EndsAreLast, RowsAreCounted, RunsGoOn, RunsStay, RunsStayInside, rows_from}
+use Rattle.spec_machine.specs.Program.{Program}
+use Rattle.spec_machine.specs.Row.{row_of}
+use Rattle.spec_machine.specs.State.{End, State, start}
+use Rattle.spec_machine.specs.Alone.{EndsAreLast, RowsAreCounted, RunsGoOn, RunsStay, RunsStayInside, rows_from}
 use Rattle.program_correctness.proofs.Counting.{row_adds_one, row_counted}
 use Rattle.program_correctness.proofs.Follow.{Takes, a_row, no_row}
 use Rattle.program_correctness.proofs.Inside.{row_inside}
 use Rattle.program_correctness.proofs.Plain.{plain_row}
 use Rattle.program_correctness.proofs.SameParts.{counted_as}
+use Rattle.avro_bytes.specs.Laws.Walks.{some_is}
 
 -- the laws of rows, as `isa` proves them
 abbrev pub RowsStay : Type 0
@@ -80,9 +81,6 @@ stays_ended P input ended n s d e h r =
     let x = first_of P input ended n s d r in
     let none : None ≡ Some x.next = sym (none_behind P input ended s e h) ∙ x.row in
     cc
-
-some_is : {A : Type 0} {x y : A} → Some x ≡ Some y → x ≡ y
-some_is e = cc
 
 pub one_end : (P : Program) (input : List ℕ) (ended : Bool) (n m : ℕ) (s c d : State) (e f : End) → rows_from P input ended n s ≡ Some c → c.end ≡ Some e → rows_from P input ended m s ≡ Some d → d.end ≡ Some f → c ≡ d
 one_end P input ended zero zero s c d e f r h k g = sym (none_taken P input ended s c r) ∙ none_taken P input ended s d k

@@ -3,23 +3,23 @@ use Rattle.std.proofs.Common.{◌≡◌, ℕ, zero, suc, ◌+◌, ◌-◌, Bool,
 use Rattle.std.specs.Prelude.{nat_lt, option_map}
 use Rattle.std.specs.Str.{is_utf8}
 use Rattle.spec_avro.specs.declared.meter.Meter.{Meter}
-use Rattle.avro_bytes.specs.declared.fault.Fault.{Fault}
+use Rattle.spec_decoding.specs.declared.fault.Fault.{Fault}
 use Rattle.spec_avro.specs.declared.malformed.MalformedKind.TheVariants.{Trailing}
 use Rattle.spec_avro.specs.Blocks.{joined}
-use Rattle.avro_bytes.specs.BlockDecoding.{next_item}
-use Rattle.avro_bytes.specs.Decoding.{Decoding, Complete, Failed, inside}
+use Rattle.spec_decoding.specs.BlockDecoding.{next_item}
+use Rattle.spec_decoding.specs.Decoding.{Decoding, Complete, Failed, inside}
 use Rattle.spec_avro.specs.Defect.{Malformed, Need}
-use Rattle.avro_bytes.specs.Length.{length_at}
-use Rattle.avro_bytes.specs.Walk.{Walk}
+use Rattle.spec_decoding.specs.LengthDecoding.{length_at}
+use Rattle.spec_decoding.specs.Walk.{Walk}
 use Rattle.spec_avro.specs.Outcome as outcomes
-use Rattle.isa.specs.declared.entry.Entry.{Entry}
-use Rattle.isa.specs.declared.entry.Entry.TheVariants as entries
-use Rattle.isa.specs.declared.end.Trap.TheVariants.{BadSlot, NoBuffer}
-use Rattle.isa.specs.declared.limits.TheConstants.{MOST_CHUNK}
-use Rattle.isa.specs.Program.{Program}
-use Rattle.isa.specs.Row.{kept, skipped}
-use Rattle.isa.specs.State.{Blocks, Frame, Out, Content, Rec, Skip, SkipBlocks, State, has_current, meter_of}
-use Rattle.isa.specs.Table.{Move, added, anything, begun, close_record, prefixed, ends_content, entered, finished, fixed, gathered, halt, if_current, items_closed, leave, moved, moves, next, next_of, only_text, opens, or_miss, passed, pushed, reads, return, select, skip_next_of, stop, trap, wait, with_frames}
+use Rattle.spec_machine.specs.declared.entry.Entry.{Entry}
+use Rattle.spec_machine.specs.declared.entry.Entry.TheVariants as entries
+use Rattle.spec_machine.specs.declared.trap.Trap.TheVariants.{BadSlot, NoBuffer}
+use Rattle.spec_machine.specs.declared.limits.TheConstants.{MOST_CHUNK}
+use Rattle.spec_machine.specs.Program.{Program}
+use Rattle.spec_machine.specs.Row.{kept, skipped}
+use Rattle.spec_machine.specs.State.{Blocks, Frame, Out, Content, Rec, Skip, SkipBlocks, State, has_current, meter_of}
+use Rattle.spec_machine.specs.Table.{Move, added, anything, begun, close_record, prefixed, ends_content, entered, finished, fixed, gathered, halt, if_current, items_closed, leave, moved, moves, next, next_of, only_text, opens, or_miss, passed, pushed, reads, return, select, skip_next_of, stop, trap, wait, with_frames}
 
 -- with another count
 abbrev pub counted_as : ℕ → State → State

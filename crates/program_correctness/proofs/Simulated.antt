@@ -4,14 +4,14 @@ use Rattle.std.proofs.Math.Nat.{mul-le-mul_right}
 use Rattle.spec_avro.specs.declared.limits.TheConstants.{MOST_UNITS, MOST_PAYLOAD}
 use Rattle.spec_avro.specs.Node.{Node}
 use Rattle.spec_avro.specs.WellFormed.{IsWellFormed}
-use Rattle.isa.specs.declared.limits.TheConstants.{MOST_INSTRS}
+use Rattle.spec_machine.specs.declared.limits.TheConstants.{MOST_INSTRS}
 use Rattle.isa.specs.Bounds.{IsBounded}
-use Rattle.isa.specs.Program.{Program}
-use Rattle.isa.specs.State.{End, Out, State, start}
-use Rattle.program_definition.specs.Code.{code_of}
+use Rattle.spec_machine.specs.Program.{Program}
+use Rattle.spec_machine.specs.State.{End, Out, State, start}
+use Rattle.spec_machine.specs.Code.{code_of}
 use Rattle.program_definition.specs.Linking.{BeginsIn, ProgramIsInRange, ProgramIsLinked}
-use Rattle.program_correctness.specs.Alone.{run_alone}
-use Rattle.program_correctness.specs.Simulation.{EachEndIsOutcome, EarlyEndIsOutcome, IsOutcomeOf, IsSimulated}
+use Rattle.spec_machine.specs.Alone.{run_alone}
+use Rattle.spec_machine.specs.Simulation.{EachEndIsOutcome, EarlyEndIsOutcome, IsOutcomeOf, IsSimulated}
 use Rattle.program_correctness.proofs.Runs.{RowsStay, RowsStayBounded, one_end, rows_bounded, runs_stay, takes_rows}
 use Rattle.program_correctness.proofs.SameParts.{counted_as}
 use Rattle.program_correctness.proofs.Whole.{Finishes, whole}

@@ -2,17 +2,18 @@
 use Rattle.std.proofs.Common.{◌≡◌, ℕ, zero, suc, ◌+◌, ◌-◌, ◌*◌, ◌≤◌, ◌<◌, List, ◌∷◌, length, Option, Some, None, refl, sym, ap, ◌∙◌, subst, arith, slice_get}
 use Rattle.spec_avro.specs.declared.limits.TheConstants.{MOST_UNITS}
 use Rattle.spec_avro.specs.declared.meter.Meter.{Meter}
-use Rattle.avro_bytes.specs.BlockDecoding.{next_item}
-use Rattle.avro_bytes.specs.Decoding.{Complete, map_decoding}
-use Rattle.avro_bytes.specs.Walk.{Walk}
+use Rattle.spec_decoding.specs.BlockDecoding.{next_item}
+use Rattle.spec_decoding.specs.Decoding.{Complete}
+use Rattle.avro_bytes.specs.Decoding.{map_decoding}
+use Rattle.spec_decoding.specs.Walk.{Walk}
 use Rattle.avro_bytes.specs.Laws.BlockSteps.{step_sound}
 use Rattle.avro_bytes.specs.Laws.Meters.{same_meter}
 use Rattle.avro_bytes.specs.Laws.Walks.{end_meter, end_takes, item_meter}
 use Rattle.avro_datum.specs.ItemDecoding.{Reader, items_at, items_from}
-use Rattle.isa.specs.declared.instr.Instr.TheVariants as op
-use Rattle.isa.specs.Program.{Program}
-use Rattle.isa.specs.State.{SkipBlocks, State, Store}
-use Rattle.isa.specs.Table.{passed}
+use Rattle.spec_machine.specs.declared.instr.Instr.TheVariants as op
+use Rattle.spec_machine.specs.Program.{Program}
+use Rattle.spec_machine.specs.State.{SkipBlocks, State, Store}
+use Rattle.spec_machine.specs.Table.{passed}
 use Rattle.program_correctness.proofs.Follow.{Follows, Leads, follows_map, follows_then, reads_then, row_then, stay}
 use Rattle.program_correctness.proofs.Plain.{between, row_of_instr}
 use Rattle.program_correctness.proofs.Stores.{opened}

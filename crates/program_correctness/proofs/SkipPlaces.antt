@@ -1,8 +1,8 @@
 -- Code that skips goes forward, and each member of a union has its place.
 use Rattle.std.proofs.Common.{◌≡◌, ℕ, suc, ◌≤◌, List, length, refl, ap, arith}
 use Rattle.spec_avro.specs.Node.{Node, FieldNode}
-use Rattle.isa.specs.Program.{Program}
-use Rattle.program_definition.specs.Statements.{Section}
+use Rattle.spec_machine.specs.Program.{Program}
+use Rattle.spec_machine.specs.Statements.{Section}
 use Rattle.program_definition.specs.SkipStands.{Skips, SkipsFields, SkipsMembers, SkipsPlain, k_array, k_boolean, k_bytes, k_enum, k_field, k_fixed, k_int, k_last, k_long, k_map, k_member, k_no_field, k_no_member, k_null, k_plain, k_record, k_text, k_union}
 
 module _ (W : List Node) (P : Program) (Begins : Section → ℕ → Type 0) where

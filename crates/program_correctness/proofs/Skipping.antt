@@ -4,13 +4,14 @@ use Rattle.std.specs.Prelude.{slice_index_or}
 use Rattle.spec_avro.specs.declared.meter.Meter.{Meter}
 use Rattle.spec_avro.specs.declared.malformed.MalformedKind.TheVariants.{BadBranch, BadEnum}
 use Rattle.avro_bytes.specs.Blob.{content_at, fixed_at}
-use Rattle.avro_bytes.specs.Boolean.{boolean_at}
-use Rattle.avro_bytes.specs.Decoding.{Complete, Failed, ◌>>=◌, map_decoding}
+use Rattle.spec_decoding.specs.BooleanDecoding.{boolean_at}
+use Rattle.spec_decoding.specs.Decoding.{Complete, Failed, ◌>>=◌}
+use Rattle.avro_bytes.specs.Decoding.{map_decoding}
 use Rattle.spec_avro.specs.Defect.{Need}
-use Rattle.avro_bytes.specs.Meter.{opened_record}
+use Rattle.spec_decoding.specs.Opening.{opened_record}
 use Rattle.spec_avro.specs.Number.{int_limit, long_limit}
-use Rattle.avro_bytes.specs.NumberDecoding.{number_at}
-use Rattle.avro_bytes.specs.Position.{position_at}
+use Rattle.spec_decoding.specs.NumberDecoding.{number_at}
+use Rattle.spec_decoding.specs.PositionDecoding.{position_at}
 use Rattle.avro_bytes.specs.Text.{text_at}
 use Rattle.avro_bytes.specs.Laws.Meters.{same_meter, was_opened}
 use Rattle.avro_bytes.specs.Laws.Numbers.{number_some}
@@ -22,12 +23,12 @@ use Rattle.avro_datum.specs.Decoding.{Decoder, array_of, closed_record, fields_a
 use Rattle.avro_datum.specs.ItemDecoding.{Reader, blocks_at}
 use Rattle.avro_datum.specs.Laws.Decoders.{Deeper}
 use Rattle.avro_datum.specs.Laws.Kinds.{kind_is_plain, none_deeper, one_deeper}
-use Rattle.isa.specs.declared.instr.Instr.TheVariants as op
-use Rattle.isa.specs.declared.limits.TheConstants.{MOST_CALLS}
-use Rattle.isa.specs.Program.{Program}
-use Rattle.isa.specs.State.{Skip as SkipFrame, State, Store}
-use Rattle.isa.specs.Table.{next, pushed}
-use Rattle.program_definition.specs.Statements.{Section, Skip}
+use Rattle.spec_machine.specs.declared.instr.Instr.TheVariants as op
+use Rattle.spec_machine.specs.declared.limits.TheConstants.{MOST_CALLS}
+use Rattle.spec_machine.specs.Program.{Program}
+use Rattle.spec_machine.specs.State.{Skip as SkipFrame, State, Store}
+use Rattle.spec_machine.specs.Table.{next, pushed}
+use Rattle.spec_machine.specs.Statements.{Section, Skip}
 use Rattle.program_definition.specs.SkipStands.{SkipRoutine, Skips, SkipsFields, SkipsMembers, SkipsPlain, k_array, k_boolean, k_bytes, k_enum, k_field, k_fixed, k_int, k_last, k_long, k_map, k_member, k_no_field, k_no_member, k_null, k_plain, k_record, k_text, k_union}
 use Rattle.program_correctness.proofs.Follow.{Comes, Follows, comes_on, cost, follows_row, follows_then, one_row, reads_then, row_then}
 use Rattle.program_correctness.proofs.LookUps.{got, got_below}

@@ -11,7 +11,7 @@ use Rattle.spec_avro.specs.Options.{given, or_else}
 use Rattle.spec_avro.specs.Partners.{has_partner, routes}
 use Rattle.resolver.specs.Laws.Fields.{filled_by_partners, is_filled, length_no_slots, one_put}
 use Rattle.spec_avro.specs.Resolution.{Resolved, ◌>>=◌, Slots, filled, no_slots, resolved, resolved_fields}
-use Rattle.isa.specs.State.{add_to_slot}
+use Rattle.spec_machine.specs.State.{add_to_slot}
 use Rattle.program_definition.specs.Stands.{PutsNothing}
 use Rattle.program_correctness.proofs.Buffers.{new_slots}
 use Rattle.program_correctness.proofs.Routes.{AreApart, AreFree, free_here, free_later, still_free}

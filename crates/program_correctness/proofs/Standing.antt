@@ -3,8 +3,8 @@ use Rattle.std.proofs.Common.{ℕ, ◌-◌, List, length}
 use Rattle.spec_avro.specs.Node.{Node}
 use Rattle.avro_datum.specs.Decoding.{Decoder}
 use Rattle.spec_avro.specs.Resolution.{resolved}
-use Rattle.isa.specs.Program.{Program}
-use Rattle.program_definition.specs.Statements.{Section}
+use Rattle.spec_machine.specs.Program.{Program}
+use Rattle.spec_machine.specs.Statements.{Section}
 use Rattle.program_definition.specs.SkipStands.{Skips}
 use Rattle.program_definition.specs.Stands.{Writes as CodeWrites}
 use Rattle.program_correctness.proofs.Effects.{bytes_of}

@@ -1,9 +1,9 @@
 -- A store that saturates: adding is adding with no limit, and then fitting to the limit; fitting may wait.
 use Rattle.std.proofs.Common.{◌≡◌, ℕ, ◌+◌, ◌≤◌, Bool, true, false, cond, List, [], ◌∷◌, ◌++◌, length, Option, Some, None, refl, sym, ap, ◌∙◌, subst, arith}
 use Rattle.std.specs.Prelude.{nat_lt}
-use Rattle.avro_bytes.specs.Walk.{Walk}
+use Rattle.spec_decoding.specs.Walk.{Walk}
 use Rattle.spec_avro.specs.declared.limits.TheConstants.{MOST_OUTPUT}
-use Rattle.isa.specs.State.{Blocks, Frame, Rec, Store, add, add_to_slot, append, empty_buffers, emptied, frames_size, frames_with, has_current, is_done, out_with, size_of, total}
+use Rattle.spec_machine.specs.State.{Blocks, Frame, Rec, Store, add, add_to_slot, append, empty_buffers, emptied, frames_size, frames_with, has_current, is_done, out_with, size_of, total}
 use Rattle.program_correctness.proofs.Buffers.{current_emptied, current_with, emptied_added, emptied_frames, emptied_twice, out_nothing, out_twice, with_nothing, with_size, with_twice}
 use Rattle.program_correctness.proofs.Numbers.{past}
 

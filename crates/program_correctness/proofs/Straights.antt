@@ -3,11 +3,11 @@ use Rattle.std.proofs.Common.{◌≡◌, ℕ, ◌+◌, ◌-◌, ◌<◌, false, 
 use Rattle.std.specs.Str.{is_utf8}
 use Rattle.spec_avro.specs.declared.malformed.MalformedKind.TheVariants.{BadEnum}
 use Rattle.avro_bytes.specs.Blob.{content_at, fixed_at}
-use Rattle.avro_bytes.specs.Boolean.{boolean_at}
+use Rattle.spec_decoding.specs.BooleanDecoding.{boolean_at}
 use Rattle.avro_bytes.specs.Decoding.{map_decoding}
 use Rattle.spec_avro.specs.Number.{int_limit, long_limit}
-use Rattle.avro_bytes.specs.NumberDecoding.{number_at}
-use Rattle.avro_bytes.specs.Position.{position_at}
+use Rattle.spec_decoding.specs.NumberDecoding.{number_at}
+use Rattle.spec_decoding.specs.PositionDecoding.{position_at}
 use Rattle.spec_avro.specs.Shortest.{shortest}
 use Rattle.avro_bytes.specs.Text.{text_at}
 use Rattle.spec_avro.specs.Written.{after_length, in_block}
@@ -23,10 +23,10 @@ use Rattle.spec_avro.specs.declared.mismatch.MismatchKind.TheVariants as kinds
 use Rattle.spec_avro.specs.Options.{given}
 use Rattle.spec_avro.specs.Resolution.{Resolved, ◌>>=◌, bytes_for, lacking, symbol_for}
 use Rattle.resolver.specs.Steps.{inside}
-use Rattle.isa.specs.declared.instr.Instr.TheVariants as op
-use Rattle.isa.specs.Program.{Program}
-use Rattle.isa.specs.State.{Store, miss}
-use Rattle.program_definition.specs.Statements.{Section, Skip, Write, miss as why_not}
+use Rattle.spec_machine.specs.declared.instr.Instr.TheVariants as op
+use Rattle.spec_machine.specs.Program.{Program}
+use Rattle.spec_machine.specs.State.{Store, miss}
+use Rattle.spec_machine.specs.Statements.{Section, Skip, Write, miss as why_not}
 use Rattle.program_definition.specs.SkipStands.{SkipRoutine, Skips}
 use Rattle.program_definition.specs.Stands.{Routine, Straights, s_array, s_boolean, s_bytes, s_bytes_text, s_enum, s_fixed, s_int, s_lacking, s_long, s_map, s_null, s_record, s_text}
 use Rattle.program_correctness.proofs.Buffers.{emptied_length}

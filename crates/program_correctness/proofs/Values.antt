@@ -1,8 +1,8 @@
 -- What is read where there is no union, and the bytes of what resolution makes of it.
 use Rattle.std.proofs.Common.{◌≡◌, ℕ, Bool, true, false, cond, List, ◌++◌, Option, Some, None, Ok, Err, refl, sym, ap, slice_get, pos, ℤ}
 use Rattle.spec_avro.specs.declared.meter.Meter.{Meter}
-use Rattle.avro_bytes.specs.Decoding.{Complete}
-use Rattle.avro_bytes.specs.Meter.{opened_record}
+use Rattle.spec_decoding.specs.Decoding.{Complete}
+use Rattle.spec_decoding.specs.Opening.{opened_record}
 use Rattle.spec_avro.specs.Shortest.{shortest}
 use Rattle.spec_avro.specs.Written.{after_length}
 use Rattle.avro_bytes.specs.Laws.Binds.{complete_is, then_complete}
@@ -16,8 +16,8 @@ use Rattle.spec_avro.specs.declared.mismatch.MismatchKind.TheVariants as kinds
 use Rattle.resolver.specs.Laws.Placed.{is_union_datum}
 use Rattle.spec_avro.specs.Resolution.{Resolved, ◌>>=◌, bytes_for, int_for, lacking, mismatch, text_for}
 use Rattle.resolver.specs.Steps.{inside}
-use Rattle.program_definition.specs.Statements.{miss as why_not}
-use Rattle.program_definition.specs.Writing.{is_text}
+use Rattle.spec_machine.specs.Statements.{miss as why_not}
+use Rattle.spec_machine.specs.Writing.{is_text}
 use Rattle.program_correctness.proofs.Effects.{bytes_of}
 
 pub record_read : (decoder : Decoder) (fields : List FieldNode) (at to : ℕ) (m n : Meter) (d : Datum) → record_at decoder fields at m ≡ Complete d to n → (ds : Data) × (d ≡ RecordDatum ds)

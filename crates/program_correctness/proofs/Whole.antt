@@ -4,7 +4,7 @@ use Rattle.std.specs.Prelude.{nat_lt}
 use Rattle.spec_avro.specs.declared.malformed.MalformedKind.TheVariants.{Trailing, Truncated}
 use Rattle.spec_avro.specs.declared.limits.TheConstants.{MOST_DEPTH, MOST_OUTPUT}
 use Rattle.spec_avro.specs.declared.meter.Meter.{Meter}
-use Rattle.avro_bytes.specs.Decoding.{Decoding, Complete, Failed}
+use Rattle.spec_decoding.specs.Decoding.{Decoding, Complete, Failed}
 use Rattle.spec_avro.specs.Defect.{Malformed, Need}
 use Rattle.spec_avro.specs.Meter.{start}
 use Rattle.avro_bytes.specs.Laws.Binds.{stands_within}
@@ -21,11 +21,11 @@ use Rattle.spec_avro.specs.Outcome.{Outcome, Done, Mismatched, OutputTooLarge}
 use Rattle.spec_avro.specs.Outcome as outcomes
 use Rattle.spec_avro.specs.PayloadOutcome.{IsOutcome}
 use Rattle.spec_avro.specs.Resolution.{Resolved, resolved}
-use Rattle.isa.specs.declared.instr.Instr.TheVariants as op
-use Rattle.isa.specs.Program.{Program}
-use Rattle.isa.specs.State.{Frame, Out, State, Store, add, start as begin}
-use Rattle.isa.specs.Table.{finished, halt, stop}
-use Rattle.program_definition.specs.Statements.{Section, Skip, Write}
+use Rattle.spec_machine.specs.declared.instr.Instr.TheVariants as op
+use Rattle.spec_machine.specs.Program.{Program}
+use Rattle.spec_machine.specs.State.{Frame, Out, State, Store, add, start as begin}
+use Rattle.spec_machine.specs.Table.{finished, halt, stop}
+use Rattle.spec_machine.specs.Statements.{Section, Skip, Write}
 use Rattle.program_definition.specs.SkipStands.{SkipRoutine}
 use Rattle.program_definition.specs.Stands.{Opening, Routine}
 use Rattle.program_correctness.proofs.Effects.{bytes_of}
@@ -34,7 +34,8 @@ use Rattle.program_correctness.proofs.Holding.{Becomes}
 use Rattle.program_correctness.proofs.Inside.{takes_inside}
 use Rattle.program_correctness.proofs.LookUps.{got, got_below}
 use Rattle.program_correctness.proofs.Marks.{stamp}
-use Rattle.program_correctness.proofs.Numbers.{lt_false, lt_no, lt_true}
+use Rattle.program_correctness.proofs.Numbers.{lt_true}
+use Rattle.isa.specs.Laws.Plain.{lt_false, lt_no}
 use Rattle.program_correctness.proofs.Pairs.{all_written}
 use Rattle.program_correctness.proofs.Plain.{between, plain_row, row_of_instr}
 use Rattle.program_correctness.proofs.Rooms.{IsReady}

@@ -1,11 +1,11 @@
 -- A worked program, run alone, comes to its states.
 use Rattle.std.proofs.Common.{refl}
-use Rattle.avro_bytes.specs.NumberDecoding.{number_at, number_front}
-use Rattle.avro_bytes.specs.Position.{position_at}
+use Rattle.spec_decoding.specs.NumberDecoding.{number_at, number_front}
+use Rattle.spec_decoding.specs.PositionDecoding.{position_at}
 use Rattle.spec_avro.specs.Shortest as short
-use Rattle.isa.specs.State.{add}
-use Rattle.isa.specs.Row.{row_of}
-use Rattle.program_correctness.specs.Alone.{rows_from}
+use Rattle.spec_machine.specs.State.{add}
+use Rattle.spec_machine.specs.Row.{row_of}
+use Rattle.spec_machine.specs.Alone.{rows_from}
 use Rattle.program_correctness.specs.Worked.{CutIsTruncated, ElevenRowsEnd, HaltWaits, NoRowIsBehindTheEnd}
 
 pub ends : ElevenRowsEnd

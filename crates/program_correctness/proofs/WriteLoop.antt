@@ -2,19 +2,20 @@
 use Rattle.std.proofs.Common.{◌≡◌, ℕ, zero, suc, ◌+◌, ◌-◌, ◌*◌, ◌≤◌, ◌<◌, true, List, [], ◌∷◌, ◌++◌, length, Option, Some, None, Ok, refl, sym, ap, ◌∙◌, subst, arith, length-append, slice_get, pos}
 use Rattle.spec_avro.specs.declared.limits.TheConstants.{MOST_UNITS}
 use Rattle.spec_avro.specs.declared.meter.Meter.{Meter}
-use Rattle.avro_bytes.specs.BlockDecoding.{next_item}
-use Rattle.avro_bytes.specs.Decoding.{Complete, map_decoding}
+use Rattle.spec_decoding.specs.BlockDecoding.{next_item}
+use Rattle.spec_decoding.specs.Decoding.{Complete}
+use Rattle.avro_bytes.specs.Decoding.{map_decoding}
 use Rattle.spec_avro.specs.Shortest.{shortest}
-use Rattle.avro_bytes.specs.Walk.{Walk}
+use Rattle.spec_decoding.specs.Walk.{Walk}
 use Rattle.spec_avro.specs.Written.{block_count, in_block}
 use Rattle.avro_bytes.specs.Laws.Meters.{same_meter}
 use Rattle.avro_bytes.specs.Laws.Walks.{end_meter, end_takes, item_meter}
 use Rattle.avro_datum.specs.ItemDecoding.{Reader, items_at, items_from}
 use Rattle.spec_avro.specs.Resolution.{Resolved, ◌>>=◌}
-use Rattle.isa.specs.declared.instr.Instr.TheVariants as op
-use Rattle.isa.specs.Program.{Program}
-use Rattle.isa.specs.State.{Blocks, Frame, State, Store, add, has_current, meter_of}
-use Rattle.isa.specs.Table.{gathered, items_closed, next_of, reads}
+use Rattle.spec_machine.specs.declared.instr.Instr.TheVariants as op
+use Rattle.spec_machine.specs.Program.{Program}
+use Rattle.spec_machine.specs.State.{Blocks, Frame, State, Store, add, has_current, meter_of}
+use Rattle.spec_machine.specs.Table.{gathered, items_closed, next_of, reads}
 use Rattle.program_correctness.proofs.Effects.{in_one, in_one_more, in_one_none}
 use Rattle.program_correctness.proofs.Follow.{Follows, Leads, follows_map, follows_then, reads_then, row_then, stay}
 use Rattle.program_correctness.proofs.Holding.{Becomes, Holds, IsHolder, Top, becomes_so, holds_more, top}

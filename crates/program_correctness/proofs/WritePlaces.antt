@@ -1,8 +1,8 @@
 -- Code that writes goes forward, and each member of a union has its place.
 use Rattle.std.proofs.Common.{◌≡◌, ℕ, suc, ◌≤◌, List, length, refl, ap, arith}
 use Rattle.spec_avro.specs.Node.{Node}
-use Rattle.isa.specs.Program.{Program}
-use Rattle.program_definition.specs.Statements.{Section}
+use Rattle.spec_machine.specs.Program.{Program}
+use Rattle.spec_machine.specs.Statements.{Section}
 use Rattle.program_definition.specs.Stands.{Straights, Writes, WritesMembers, WritesPlain, s_array, s_boolean, s_bytes, s_bytes_text, s_enum, s_fixed, s_int, s_lacking, s_long, s_map, s_null, s_record, s_text, x_into, x_last, x_member, x_no_member, x_nowhere, x_plain, x_straight, x_union, x_unmatched}
 use Rattle.program_correctness.proofs.SkipPlaces.{skips_forward}
 

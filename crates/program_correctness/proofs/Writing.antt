@@ -1,12 +1,13 @@
 -- Code that writes: it follows a reader, and its effect is the bytes of what was read, or a mismatch.
 use Rattle.std.proofs.Common.{◌≡◌, ℕ, ◌≤◌, List, length, Ok, Err, sym, ◌∙◌, subst}
 use Rattle.spec_avro.specs.declared.meter.Meter.{Meter}
-use Rattle.avro_bytes.specs.Decoding.{Complete, map_decoding}
+use Rattle.spec_decoding.specs.Decoding.{Complete}
+use Rattle.avro_bytes.specs.Decoding.{map_decoding}
 use Rattle.avro_datum.specs.ItemDecoding.{Reader}
 use Rattle.spec_avro.specs.declared.mismatch.Mismatch.{Mismatch}
 use Rattle.spec_avro.specs.Resolution.{Resolved}
-use Rattle.isa.specs.Program.{Program}
-use Rattle.isa.specs.State.{State, Store, add, has_current}
+use Rattle.spec_machine.specs.Program.{Program}
+use Rattle.spec_machine.specs.State.{State, Store, add, has_current}
 use Rattle.program_correctness.proofs.Buffers.{current_emptied, emptied_length}
 use Rattle.program_correctness.proofs.Follow.{Follows, follows_map, follows_so}
 use Rattle.program_correctness.proofs.Holding.{Becomes, becomes_so}

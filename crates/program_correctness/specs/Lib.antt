@@ -1,3 +1,1 @@
-pub mod Alone
-pub mod Simulation
 pub mod Worked

@@ -2,9 +2,9 @@
 use Rattle.std.specs.Prelude.{◌≡◌, ℕ, true, false, List, [], ◌∷◌, Some, None}
 use Rattle.spec_avro.specs.declared.malformed.MalformedKind.TheVariants.{Truncated}
 use Rattle.spec_avro.specs.Outcome.{Done, Malformed}
-use Rattle.isa.specs.State.{Out, Rec}
+use Rattle.spec_machine.specs.State.{Out, Rec}
 use Rattle.program_definition.specs.Worked.{long_list_program}
-use Rattle.program_correctness.specs.Alone.{run_alone}
+use Rattle.spec_machine.specs.Alone.{run_alone}
 
 -- 02 00: 1, and no more
 abbrev pub one : List ℕ

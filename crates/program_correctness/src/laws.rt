@@ -1,7 +1,7 @@
 //! Laws of programs that are run alone. They do nothing when they run.
 
-ghost use Rattle.program_correctness.specs.Alone.{EndsAreLast, RowsAreCounted, RunsGoOn, RunsStay, RunsStayInside};
-ghost use Rattle.program_correctness.specs.Simulation.{EachEndIsOutcome, EarlyEndIsOutcome, IsSimulated};
+ghost use Rattle.spec_machine.specs.Alone.{EndsAreLast, RowsAreCounted, RunsGoOn, RunsStay, RunsStayInside};
+ghost use Rattle.spec_machine.specs.Simulation.{EachEndIsOutcome, EarlyEndIsOutcome, IsSimulated};
 ghost use Rattle.program_correctness.specs.Worked.{CutIsTruncated, ElevenRowsEnd, HaltWaits, NoRowIsBehindTheEnd};
 
 use avro_types::Nodes;

@@ -2,8 +2,8 @@
 use Rattle.std.proofs.Common.{◌≡◌, suc, ◌≤◌, Bool, true, false, List, [], ◌∷◌, ◌++◌, length, refl, sym, ap, ◌∙◌, arith}
 use Rattle.std.specs.Prelude.{if◌then◌else◌}
 use Rattle.std.specs.List.{AllByRecursion}
-use Rattle.program_definition.specs.Statements.{Section}
-use Rattle.program_definition.specs.Numbering.{adding, has, same_section}
+use Rattle.spec_machine.specs.Statements.{Section}
+use Rattle.spec_machine.specs.Numbering.{adding, has, same_section}
 use Rattle.program_definition.proofs.Numbers.{section_is, section_refl}
 
 abbrev pub IsIn : List Section → Section → Type 0

@@ -3,9 +3,9 @@ use Rattle.std.proofs.Common.{◌≡◌, ℕ, zero, suc, ◌+◌, Bool, true, fa
 use Rattle.std.specs.Prelude.{slice_get, if◌then◌else◌}
 use Rattle.std.specs.List.{AllByRecursion}
 use Rattle.spec_avro.specs.Options.{given}
-use Rattle.program_definition.specs.Code.{reached}
-use Rattle.program_definition.specs.Statements.{Section, Statement}
-use Rattle.program_definition.specs.Numbering.{adding, calls_of, has, named_in, same_section}
+use Rattle.spec_machine.specs.Code.{reached}
+use Rattle.spec_machine.specs.Statements.{Section, Statement}
+use Rattle.spec_machine.specs.Numbering.{adding, calls_of, has, named_in, same_section}
 
 module _ {A : Type 0} (same : A → A → Bool) (Q : A → Type 0) where
   all_last : (xs : List A) (a : A) → AllByRecursion Q xs → Q a → AllByRecursion Q (xs ++ a ∷ [])

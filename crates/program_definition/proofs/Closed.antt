@@ -5,9 +5,9 @@ use Rattle.std.specs.List.{AllByRecursion}
 use Rattle.std.proofs.lemmas.Option.{slice_get_within}
 use Rattle.std.proofs.lemmas.Bool.{cases_lt}
 use Rattle.spec_avro.specs.Options.{given}
-use Rattle.program_definition.specs.Code.{statements_of, reached}
-use Rattle.program_definition.specs.Statements.{Section, Main, Statement}
-use Rattle.program_definition.specs.Numbering.{adding, calls_of, has, named_in, same_section}
+use Rattle.spec_machine.specs.Code.{statements_of, reached}
+use Rattle.spec_machine.specs.Statements.{Section, Main, Statement}
+use Rattle.spec_machine.specs.Numbering.{adding, calls_of, has, named_in, same_section}
 use Rattle.program_definition.proofs.Numbers.{AllIn, Extends, added, all_more, section_refl}
 
 module _ (section : Section → List Statement) where

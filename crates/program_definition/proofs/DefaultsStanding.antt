@@ -7,10 +7,10 @@ use Rattle.spec_avro.specs.Node.{Node, FieldNode}
 use Rattle.spec_avro.specs.declared.place.Route.{Route}
 use Rattle.spec_avro.specs.Options.{given}
 use Rattle.spec_avro.specs.Partners.{has_partner}
-use Rattle.isa.specs.Program.{Program}
-use Rattle.program_definition.specs.Statements.{Section, Statement}
+use Rattle.spec_machine.specs.Program.{Program}
+use Rattle.spec_machine.specs.Statements.{Section, Statement}
 use Rattle.program_definition.specs.Stands.{Defaults, PutsNothing, no_default, none_put, one_put, partnered}
-use Rattle.program_definition.specs.Writing.{default_bytes, defaults_code, put_in}
+use Rattle.spec_machine.specs.Writing.{default_bytes, defaults_code, put_in}
 use Rattle.program_definition.proofs.Numbering.{AtFrom, first_at, none_at, rest_at}
 use Rattle.program_definition.proofs.Placed.{Placed, placed_front, placed_back}
 

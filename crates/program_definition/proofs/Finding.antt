@@ -8,11 +8,11 @@ use Rattle.spec_avro.specs.Node.{Node, FieldNode, RecordNode}
 use Rattle.spec_avro.specs.WellFormed.{IsWellFormed}
 use Rattle.spec_avro.specs.Options.{given}
 use Rattle.spec_avro.specs.Resolution.{field_lists}
-use Rattle.program_definition.specs.Code.{reached}
+use Rattle.spec_machine.specs.Code.{reached}
 use Rattle.program_definition.specs.Limits.{AreAll, SectionsAreFound}
-use Rattle.program_definition.specs.Statements.{Section, Main, Write, Skip}
-use Rattle.program_definition.specs.Numbering.{adding, calls_of, has, named_in, same_section}
-use Rattle.program_definition.specs.Writing.{section}
+use Rattle.spec_machine.specs.Statements.{Section, Main, Write, Skip}
+use Rattle.spec_machine.specs.Numbering.{adding, calls_of, has, named_in, same_section}
+use Rattle.spec_machine.specs.Writing.{section}
 use Rattle.program_definition.proofs.Apart.{AreApart, IsIn, apart_added, no_more}
 use Rattle.program_definition.proofs.Callers.{all_added, got}
 use Rattle.program_definition.proofs.Good.{IsRoutine}

@@ -3,14 +3,14 @@ use Rattle.std.proofs.Common.{◌≡◌, ℕ, zero, suc, ◌+◌, ◌<◌, ◌�
 use Rattle.std.specs.Prelude.{slice_get, if◌then◌else◌}
 use Rattle.spec_avro.specs.Node.{Node}
 use Rattle.spec_avro.specs.Options.{given}
-use Rattle.isa.specs.declared.limits.TheConstants.{MOST_INSTRS}
-use Rattle.isa.specs.Judging.{is_within_limits}
-use Rattle.isa.specs.Program.{Program}
-use Rattle.program_definition.specs.Code.{are_whole, assembled, checked, code_of, statements_of, reached, start_in}
+use Rattle.spec_machine.specs.declared.limits.TheConstants.{MOST_INSTRS}
+use Rattle.spec_machine.specs.Judging.{is_within_limits}
+use Rattle.spec_machine.specs.Program.{Program}
+use Rattle.spec_machine.specs.Code.{are_whole, assembled, checked, code_of, statements_of, reached, start_in}
 use Rattle.program_definition.specs.Limits.{whole_program}
-use Rattle.program_definition.specs.Statements.{Section, Main, Statement}
-use Rattle.program_definition.specs.Numbering.{adding, calls_of, named_in, numbered, same_section}
-use Rattle.program_definition.specs.Writing.{section}
+use Rattle.spec_machine.specs.Statements.{Section, Main, Statement}
+use Rattle.spec_machine.specs.Numbering.{adding, calls_of, named_in, numbered, same_section}
+use Rattle.spec_machine.specs.Writing.{section}
 use Rattle.program_definition.proofs.Limits.{passes_limit}
 use Rattle.program_definition.proofs.Numbers.{Extends, added, section_refl}
 use Rattle.program_definition.proofs.Ranges.{code_length}

@@ -4,12 +4,12 @@ use Rattle.std.specs.Prelude.{slice_get}
 use Rattle.std.specs.List.{AllByRecursion}
 use Rattle.spec_avro.specs.Node.{Node, Names, FieldNode, RecordNode}
 use Rattle.spec_avro.specs.Resolution.{field_lists}
-use Rattle.isa.specs.declared.instr.Instr.{Instr}
-use Rattle.isa.specs.declared.instr.Instr.TheVariants as op
-use Rattle.isa.specs.declared.limits.TheConstants.{MOST_SYMBOLS}
-use Rattle.isa.specs.declared.range.Sizes.{Sizes}
-use Rattle.isa.specs.Range.{InstrIsInRange, MissIsInRange}
-use Rattle.program_definition.specs.Statements.{Section, Main, Write, Skip, Statement, Op, Put, Miss, BytesText, Enum, Call, Ahead, Back, Branch, Lost, Target, To, Lacks, begins, branched, looped, one_of}
+use Rattle.spec_machine.specs.declared.instr.Instr.{Instr}
+use Rattle.spec_machine.specs.declared.instr.Instr.TheVariants as op
+use Rattle.spec_machine.specs.declared.limits.TheConstants.{MOST_SYMBOLS}
+use Rattle.spec_machine.specs.declared.sizes.Sizes.{Sizes}
+use Rattle.spec_machine.specs.Range.{InstrIsInRange, MissIsInRange}
+use Rattle.spec_machine.specs.Statements.{Section, Main, Write, Skip, Statement, Op, Put, Miss, BytesText, Enum, Call, Ahead, Back, Branch, Lost, Target, To, Lacks, begins, branched, looped, one_of}
 
 abbrev pub TargetIsGood : Target → Type 0
 TargetIsGood (To n) = n < MOST_SYMBOLS

@@ -10,11 +10,11 @@ use Rattle.resolver.specs.Partners.{AreRoutes}
 use Rattle.spec_avro.specs.Partners.{routes}
 use Rattle.spec_avro.specs.Resolution.{field_lists}
 use Rattle.resolver.proofs.Within.{routes_within}
-use Rattle.isa.specs.declared.instr.Instr.TheVariants as op
-use Rattle.isa.specs.declared.limits.TheConstants.{MOST_SLOTS}
-use Rattle.program_definition.specs.Statements.{Statement, Lost, Op, Section, Main, Write, Skip}
-use Rattle.program_definition.specs.Skipping.{K, skip_fields, skip_routine}
-use Rattle.program_definition.specs.Writing.{X, default_bytes, defaults_code, field_code, fields_code, put_in, section, write_routine}
+use Rattle.spec_machine.specs.declared.instr.Instr.TheVariants as op
+use Rattle.spec_machine.specs.declared.limits.TheConstants.{MOST_SLOTS}
+use Rattle.spec_machine.specs.Statements.{Statement, Lost, Op, Section, Main, Write, Skip}
+use Rattle.spec_machine.specs.Skipping.{K, skip_fields, skip_routine}
+use Rattle.spec_machine.specs.Writing.{X, default_bytes, defaults_code, field_code, fields_code, put_in, section, write_routine}
 use Rattle.program_definition.proofs.Good.{AllGood, IsRoutine, good_then}
 use Rattle.program_definition.proofs.GoodSkips.{good_K}
 use Rattle.program_definition.proofs.GoodWrites.{good_X}

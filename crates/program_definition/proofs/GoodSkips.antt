@@ -3,9 +3,9 @@ use Rattle.std.proofs.Common.{◌≡◌, ℕ, zero, suc, ◌<◌, false, List, �
 use Rattle.std.specs.Prelude.{slice_get}
 use Rattle.spec_avro.specs.Node.{Node, NullNode, BooleanNode, IntNode, LongNode, BytesNode, TextNode, FixedNode, EnumNode, ArrayNode, MapNode, UnionNode, RecordNode}
 use Rattle.spec_avro.specs.WellFormed.{IsMember, IsPartOf, IsWellFormed, is_named}
-use Rattle.isa.specs.declared.instr.Instr.TheVariants as op
-use Rattle.program_definition.specs.Statements.{Statement, Op}
-use Rattle.program_definition.specs.Skipping.{K, skip_node, skip_within}
+use Rattle.spec_machine.specs.declared.instr.Instr.TheVariants as op
+use Rattle.spec_machine.specs.Statements.{Statement, Op}
+use Rattle.spec_machine.specs.Skipping.{K, skip_node, skip_within}
 use Rattle.program_definition.proofs.Good.{AllGood, good_branched, good_loop}
 use Rattle.program_definition.proofs.Levels.{Enough, enough, enough_on, is_there, not_none}
 

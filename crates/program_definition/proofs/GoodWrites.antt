@@ -19,11 +19,11 @@ use Rattle.spec_avro.specs.Matching.{first_member, matches, place, place_at}
 use Rattle.spec_avro.specs.Options.{given, or_else}
 use Rattle.spec_avro.specs.Partners.{routes}
 use Rattle.spec_avro.specs.Resolution.{field_lists, lacking, lacking_from, lacks, symbol_for}
-use Rattle.isa.specs.declared.instr.Instr.TheVariants as op
-use Rattle.isa.specs.declared.limits.TheConstants.{MOST_SYMBOLS}
-use Rattle.isa.specs.Range.{MissIsInRange}
-use Rattle.program_definition.specs.Statements.{Statement, Op, BytesText, Lacks, To, miss}
-use Rattle.program_definition.specs.Writing.{X, is_text, placed_node, record_code, straight_node, target, write_node, write_within}
+use Rattle.spec_machine.specs.declared.instr.Instr.TheVariants as op
+use Rattle.spec_machine.specs.declared.limits.TheConstants.{MOST_SYMBOLS}
+use Rattle.spec_machine.specs.Range.{MissIsInRange}
+use Rattle.spec_machine.specs.Statements.{Statement, Op, BytesText, Lacks, To, miss}
+use Rattle.spec_machine.specs.Writing.{X, is_text, placed_node, record_code, straight_node, target, write_node, write_within}
 use Rattle.program_definition.proofs.Good.{AllGood, TargetIsGood, good_branched, good_loop}
 use Rattle.program_definition.proofs.GoodSkips.{good_K}
 use Rattle.program_definition.proofs.Levels.{Enough, enough, enough_on, is_there, not_none}

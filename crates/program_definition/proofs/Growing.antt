@@ -4,9 +4,9 @@ use Rattle.std.specs.Prelude.{if◌then◌else◌}
 use Rattle.std.specs.List.{AllByRecursion}
 use Rattle.std.specs.Str.{bytes_eq}
 use Rattle.spec_avro.specs.declared.mismatch.Mismatch.{Mismatch}
-use Rattle.isa.specs.declared.instr.Instr.TheVariants as op
-use Rattle.program_definition.specs.Statements.{Section, Statement, Op, Put, Miss, BytesText, Enum, Call, Ahead, Back, Branch, Lost}
-use Rattle.program_definition.specs.Numbering.{code_from, constants_of, has, jumps_of, linked, maps_of, misses_of, named_in, number, same_miss}
+use Rattle.spec_machine.specs.declared.instr.Instr.TheVariants as op
+use Rattle.spec_machine.specs.Statements.{Section, Statement, Op, Put, Miss, BytesText, Enum, Call, Ahead, Back, Branch, Lost}
+use Rattle.spec_machine.specs.Numbering.{code_from, constants_of, has, jumps_of, linked, maps_of, misses_of, named_in, number, same_miss}
 use Rattle.program_definition.proofs.Numbering.{all_front, all_back}
 
 pub number_more : {A : Type 0} (same : A → A → Bool) (a : A) (xs more : List A) → has same a xs ≡ true → number same a (xs ++ more) ≡ number same a xs

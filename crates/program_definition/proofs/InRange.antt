@@ -6,16 +6,16 @@ use Rattle.std.specs.Str.{bytes_eq}
 use Rattle.std.proofs.lemmas.List.{length-map}
 use Rattle.spec_avro.specs.Node.{Node}
 use Rattle.spec_avro.specs.WellFormed.{IsWellFormed}
-use Rattle.isa.specs.declared.limits.TheConstants.{MOST_INSTRS}
-use Rattle.isa.specs.Judging.{is_within_limits}
-use Rattle.isa.specs.Program.{Program}
-use Rattle.isa.specs.Range.{IsProgram, MissIsInRange}
-use Rattle.program_definition.specs.Code.{assembled, code_of, statements_of, reached, start_in}
+use Rattle.spec_machine.specs.declared.limits.TheConstants.{MOST_INSTRS}
+use Rattle.spec_machine.specs.Judging.{is_within_limits}
+use Rattle.spec_machine.specs.Program.{Program}
+use Rattle.spec_machine.specs.Range.{IsProgram, MissIsInRange}
+use Rattle.spec_machine.specs.Code.{assembled, code_of, statements_of, reached, start_in}
 use Rattle.program_definition.specs.Limits.{whole_program}
-use Rattle.program_definition.specs.Statements.{Section, Main, Statement}
+use Rattle.spec_machine.specs.Statements.{Section, Main, Statement}
 use Rattle.program_definition.specs.Linking.{ProgramIsInRange}
-use Rattle.program_definition.specs.Numbering.{calls_of, constants_of, entry_of, has, jumps_from, maps_of, misses_of, named_in, same_miss, same_section}
-use Rattle.program_definition.specs.Writing.{section}
+use Rattle.spec_machine.specs.Numbering.{calls_of, constants_of, entry_of, has, jumps_from, maps_of, misses_of, named_in, same_miss, same_section}
+use Rattle.spec_machine.specs.Writing.{section}
 use Rattle.program_definition.proofs.Callers.{all_added}
 use Rattle.program_definition.proofs.Closed.{Closed, all_called, reached_closed}
 use Rattle.program_definition.proofs.Good.{AllGood}

@@ -2,13 +2,13 @@
 use Rattle.std.proofs.Common.{◌≡◌, ◌<◌, Bool, true, false, cond, ◌&&◌, List, [], ◌∷◌, length, Option, Some, None, refl, subst, arith}
 use Rattle.spec_avro.specs.Node.{Node}
 use Rattle.spec_avro.specs.WellFormed.{IsWellFormed}
-use Rattle.isa.specs.declared.limits.TheConstants.{MOST_INSTRS}
-use Rattle.isa.specs.Judging.{is_within_limits}
-use Rattle.isa.specs.Program.{Program}
-use Rattle.program_definition.specs.Code.{are_whole, assembled, code_of, statements_of, reached, start_in}
+use Rattle.spec_machine.specs.declared.limits.TheConstants.{MOST_INSTRS}
+use Rattle.spec_machine.specs.Judging.{is_within_limits}
+use Rattle.spec_machine.specs.Program.{Program}
+use Rattle.spec_machine.specs.Code.{are_whole, assembled, code_of, statements_of, reached, start_in}
 use Rattle.program_definition.specs.Limits.{NoneByLimitsAlone, whole_program}
-use Rattle.program_definition.specs.Statements.{Section, Main, Statement}
-use Rattle.program_definition.specs.Writing.{section}
+use Rattle.spec_machine.specs.Statements.{Section, Main, Statement}
+use Rattle.spec_machine.specs.Writing.{section}
 use Rattle.program_definition.proofs.Ranges.{code_length, within_limits}
 use Rattle.program_definition.proofs.Rounds.{same_reached, too_many}
 use Rattle.program_definition.proofs.Whole.{no_statement_is_lost, sections_long}

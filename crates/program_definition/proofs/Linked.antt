@@ -5,15 +5,15 @@ use Rattle.std.specs.List.{AllByRecursion}
 use Rattle.std.specs.Str.{bytes_eq}
 use Rattle.spec_avro.specs.Node.{Node}
 use Rattle.spec_avro.specs.WellFormed.{IsWellFormed}
-use Rattle.isa.specs.declared.limits.TheConstants.{MOST_INSTRS}
-use Rattle.isa.specs.Judging.{is_within_limits}
-use Rattle.isa.specs.Program.{Program}
-use Rattle.program_definition.specs.Code.{are_whole, assembled, code_of, statements_of, reached, start_in}
+use Rattle.spec_machine.specs.declared.limits.TheConstants.{MOST_INSTRS}
+use Rattle.spec_machine.specs.Judging.{is_within_limits}
+use Rattle.spec_machine.specs.Program.{Program}
+use Rattle.spec_machine.specs.Code.{are_whole, assembled, code_of, statements_of, reached, start_in}
 use Rattle.program_definition.specs.Limits.{whole_program}
-use Rattle.program_definition.specs.Statements.{Section, Main, Write, Skip, Statement}
+use Rattle.spec_machine.specs.Statements.{Section, Main, Write, Skip, Statement}
 use Rattle.program_definition.specs.Linking.{BeginsIn, IsLinked, ProgramIsLinked}
-use Rattle.program_definition.specs.Numbering.{calls_of, constants_of, has, misses_of, named_in, numbered, same_miss, same_section}
-use Rattle.program_definition.specs.Writing.{section}
+use Rattle.spec_machine.specs.Numbering.{calls_of, constants_of, has, misses_of, named_in, numbered, same_miss, same_section}
+use Rattle.spec_machine.specs.Writing.{section}
 use Rattle.program_definition.proofs.Closed.{Closed, all_called, reached_closed}
 use Rattle.program_definition.proofs.Numbering.{all_stand, from_start}
 use Rattle.program_definition.proofs.Numbers.{Extends, added, bytes_refl, miss_refl, section_is, section_refl}

@@ -4,10 +4,10 @@ use Rattle.std.specs.Prelude.{slice_get, if◌then◌else◌}
 use Rattle.std.specs.List.{AllByRecursion}
 use Rattle.std.specs.Str.{bytes_eq}
 use Rattle.spec_avro.specs.declared.mismatch.Mismatch.{Mismatch}
-use Rattle.isa.specs.Program.{Program}
-use Rattle.program_definition.specs.Code.{are_whole, is_lost}
-use Rattle.program_definition.specs.Statements.{Section, Statement, Op, Put, Miss, BytesText, Enum, Call, Ahead, Back, Branch, Lost, Target, To, Lacks}
-use Rattle.program_definition.specs.Numbering.{calls_of, code_from, constants_of, entry_of, has, jumps_from, jumps_of, lacked, linked, maps_of, misses_of, named_in, number, same_miss}
+use Rattle.spec_machine.specs.Program.{Program}
+use Rattle.spec_machine.specs.Code.{are_whole, is_lost}
+use Rattle.spec_machine.specs.Statements.{Section, Statement, Op, Put, Miss, BytesText, Enum, Call, Ahead, Back, Branch, Lost, Target, To, Lacks}
+use Rattle.spec_machine.specs.Numbering.{calls_of, code_from, constants_of, entry_of, has, jumps_from, jumps_of, lacked, linked, maps_of, misses_of, named_in, number, same_miss}
 use Rattle.program_definition.proofs.Numbers.{bytes_is, miss_is, number_at}
 use Rattle.program_definition.proofs.Placed.{AreTargets, Placed, Stand}
 

@@ -8,8 +8,9 @@ use Rattle.spec_avro.specs.declared.mismatch.Mismatch.{Mismatch}
 use Rattle.spec_avro.specs.MismatchKind.{code_of as code_of_kind}
 use Rattle.spec_avro.specs.declared.mismatch.MismatchKind.{MismatchKind}
 use Rattle.spec_avro.specs.declared.mismatch.MismatchKind.TheVariants as kinds
-use Rattle.program_definition.specs.Statements.{Section, Main, Write, Skip}
-use Rattle.program_definition.specs.Numbering.{adding, has, number, same_miss, same_section}
+use Rattle.spec_machine.specs.Statements.{Section, Main, Write, Skip}
+use Rattle.spec_machine.specs.Numbering.{adding, has, number, same_miss, same_section}
+use Rattle.program_definition.specs.Laws.Plain.{eq_is}
 
 module _ {A : Type 0} (same : A → A → Bool) (decides : (a b : A) → same a b ≡ true → a ≡ b) where
   pub number_at : (a : A) (xs : List A) → has same a xs ≡ true → slice_get xs (number same a xs) ≡ Some a
@@ -60,9 +61,6 @@ module _ {A : Type 0} (same : A → A → Bool) (refls : (a : A) → same a a �
 
 eq_refl : (n : ℕ) → (n == n) ≡ true
 eq_refl n = grind arith
-
-eq_is : (a b : ℕ) → (a == b) ≡ true → a ≡ b
-eq_is a b h = grind arith
 
 and_is : (a b : Bool) → (a && b) ≡ true → (a ≡ true) × (b ≡ true)
 and_is true b h = (refl, h)

@@ -7,13 +7,13 @@ use Rattle.std.proofs.lemmas.Bool.Decides.{nat_tests}
 use Rattle.std.proofs.lemmas.Option.{slice_get_within}
 use Rattle.spec_avro.specs.Node.{Node}
 use Rattle.spec_avro.specs.declared.mismatch.Mismatch.{Mismatch}
-use Rattle.isa.specs.declared.limits.TheConstants.{MOST_ENTRIES}
-use Rattle.isa.specs.declared.range.Sizes.{Sizes}
-use Rattle.isa.specs.Judging.{are_within, is_within_limits}
-use Rattle.isa.specs.Program.{Program}
-use Rattle.isa.specs.Range.{EntryIsInRange, InstrIsInRange, IsAddress, IsWithinLimits, MissIsInRange, sizes_of}
-use Rattle.program_definition.specs.Statements.{Section, Statement, Op, Put, Miss, BytesText, Enum, Call, Ahead, Back, Branch, Lost, Target, To, Lacks}
-use Rattle.program_definition.specs.Numbering.{calls_of, code_from, constants_of, entry_of, has, jumps_from, jumps_of, lacked, linked, maps_of, misses_of, named_in, number, same_miss}
+use Rattle.spec_machine.specs.declared.limits.TheConstants.{MOST_ENTRIES}
+use Rattle.spec_machine.specs.declared.sizes.Sizes.{Sizes}
+use Rattle.spec_machine.specs.Judging.{are_within, is_within_limits}
+use Rattle.spec_machine.specs.Program.{Program}
+use Rattle.spec_machine.specs.Range.{EntryIsInRange, InstrIsInRange, IsAddress, IsWithinLimits, MissIsInRange, sizes_of}
+use Rattle.spec_machine.specs.Statements.{Section, Statement, Op, Put, Miss, BytesText, Enum, Call, Ahead, Back, Branch, Lost, Target, To, Lacks}
+use Rattle.spec_machine.specs.Numbering.{calls_of, code_from, constants_of, entry_of, has, jumps_from, jumps_of, lacked, linked, maps_of, misses_of, named_in, number, same_miss}
 use Rattle.program_definition.proofs.Good.{AllGood, IsGood, TargetIsGood}
 use Rattle.program_definition.proofs.Numbering.{all_front, all_back}
 use Rattle.program_definition.proofs.Numbers.{bytes_is, miss_is, number_at}

@@ -3,9 +3,9 @@ use Rattle.std.proofs.Common.{◌≡◌, ℕ, zero, suc, ◌+◌, ◌<◌, ◌�
 use Rattle.std.specs.Prelude.{slice_get}
 use Rattle.std.proofs.lemmas.Option.{slice_get_within}
 use Rattle.spec_avro.specs.Options.{given}
-use Rattle.program_definition.specs.Code.{reached}
-use Rattle.program_definition.specs.Statements.{Section, Statement}
-use Rattle.program_definition.specs.Numbering.{adding, calls_of, named_in, same_section}
+use Rattle.spec_machine.specs.Code.{reached}
+use Rattle.spec_machine.specs.Statements.{Section, Statement}
+use Rattle.spec_machine.specs.Numbering.{adding, calls_of, named_in, same_section}
 use Rattle.program_definition.proofs.Numbers.{added, section_refl}
 
 module _ (section : Section → List Statement) where

@@ -8,11 +8,11 @@ use Rattle.spec_avro.specs.declared.place.Route.{Route}
 use Rattle.spec_avro.specs.Options.{given}
 use Rattle.spec_avro.specs.Partners.{routes}
 use Rattle.spec_avro.specs.Resolution.{field_lists}
-use Rattle.isa.specs.declared.instr.Instr.TheVariants as op
-use Rattle.isa.specs.Program.{Program}
-use Rattle.program_definition.specs.Statements.{Section, Statement, Op, Lost, Main, Write, Skip}
-use Rattle.program_definition.specs.Skipping.{K, skip_fields, skip_routine}
-use Rattle.program_definition.specs.Writing.{X, defaults_code, field_code, fields_code, section, write_routine}
+use Rattle.spec_machine.specs.declared.instr.Instr.TheVariants as op
+use Rattle.spec_machine.specs.Program.{Program}
+use Rattle.spec_machine.specs.Statements.{Section, Statement, Op, Lost, Main, Write, Skip}
+use Rattle.spec_machine.specs.Skipping.{K, skip_fields, skip_routine}
+use Rattle.spec_machine.specs.Writing.{X, defaults_code, field_code, fields_code, section, write_routine}
 use Rattle.program_definition.specs.SkipStands.{Skips, SkipsFields, k_no_field, k_field, SkipRoutine}
 use Rattle.program_definition.specs.Stands.{Fields, no_field, dropped, kept, Opening, Routine, Writes}
 use Rattle.program_definition.proofs.DefaultsStanding.{defaults_stand}

@@ -4,11 +4,11 @@ use Rattle.std.specs.Prelude.{slice_get}
 use Rattle.std.specs.List.{AllByRecursion}
 use Rattle.spec_avro.specs.Node.{Node, NullNode, BooleanNode, IntNode, LongNode, BytesNode, TextNode, FixedNode, EnumNode, ArrayNode, MapNode, UnionNode, RecordNode}
 use Rattle.spec_avro.specs.WellFormed.{IsMember, IsWellFormed, is_union}
-use Rattle.isa.specs.declared.instr.Instr.{Instr}
-use Rattle.isa.specs.declared.instr.Instr.TheVariants as op
-use Rattle.isa.specs.Program.{Program}
-use Rattle.program_definition.specs.Statements.{Section, Statement, Op, Ahead, Back, begins, branched, looped, one_of}
-use Rattle.program_definition.specs.Skipping.{skip_node, skip_within}
+use Rattle.spec_machine.specs.declared.instr.Instr.{Instr}
+use Rattle.spec_machine.specs.declared.instr.Instr.TheVariants as op
+use Rattle.spec_machine.specs.Program.{Program}
+use Rattle.spec_machine.specs.Statements.{Section, Statement, Op, Ahead, Back, begins, branched, looped, one_of}
+use Rattle.spec_machine.specs.Skipping.{skip_node, skip_within}
 use Rattle.program_definition.specs.SkipStands.{At, Skips, SkipsPlain, SkipsMembers, k_plain, k_union, k_null, k_boolean, k_int, k_long, k_bytes, k_text, k_fixed, k_enum, k_array, k_map, k_record, k_no_member, k_last, k_member}
 use Rattle.program_definition.proofs.Placed.{Placed, placed_front, placed_back}
 

@@ -6,13 +6,13 @@ use Rattle.spec_avro.specs.Node.{Node, FieldNode, RecordNode}
 use Rattle.spec_avro.specs.WellFormed.{IsWellFormed}
 use Rattle.spec_avro.specs.Options.{given}
 use Rattle.spec_avro.specs.Resolution.{field_lists}
-use Rattle.isa.specs.declared.instr.Instr.TheVariants as op
-use Rattle.program_definition.specs.Code.{are_whole, is_lost, statements_of}
+use Rattle.spec_machine.specs.declared.instr.Instr.TheVariants as op
+use Rattle.spec_machine.specs.Code.{are_whole, is_lost, statements_of}
 use Rattle.program_definition.specs.Limits.{AreAll, NoStatementIsLost}
-use Rattle.program_definition.specs.Statements.{Section, Main, Write, Skip, Statement, Op, Put, Miss, BytesText, Enum, Call, Ahead, Back, Branch, Lost}
-use Rattle.program_definition.specs.Numbering.{calls_of, named_in}
-use Rattle.program_definition.specs.Skipping.{skip_routine}
-use Rattle.program_definition.specs.Writing.{X, section, write_routine}
+use Rattle.spec_machine.specs.Statements.{Section, Main, Write, Skip, Statement, Op, Put, Miss, BytesText, Enum, Call, Ahead, Back, Branch, Lost}
+use Rattle.spec_machine.specs.Numbering.{calls_of, named_in}
+use Rattle.spec_machine.specs.Skipping.{skip_routine}
+use Rattle.spec_machine.specs.Writing.{X, section, write_routine}
 use Rattle.program_definition.proofs.Callers.{all_reached}
 use Rattle.program_definition.proofs.Good.{AllGood, IsGood, IsRoutine, good_then}
 use Rattle.program_definition.proofs.GoodSections.{good_section}

@@ -3,10 +3,10 @@ use Rattle.std.proofs.Common.{refl}
 use Rattle.spec_avro.specs.Shortest as S
 use Rattle.spec_avro.specs.Writing.{written}
 use Rattle.spec_avro.specs.Matching.{matches_within}
-use Rattle.program_definition.specs.Code.{code_of}
-use Rattle.program_definition.specs.Skipping.{skip_within}
+use Rattle.spec_machine.specs.Code.{code_of}
+use Rattle.spec_machine.specs.Skipping.{skip_within}
 use Rattle.program_definition.specs.Worked.{LongListHasItsProgram, PairHasItsProgram, ReaderHasItsProgram, RenamedHasItsProgram}
-use Rattle.program_definition.specs.Writing.{section, write_within}
+use Rattle.spec_machine.specs.Writing.{section, write_within}
 
 pub of_long_list : LongListHasItsProgram
 unfolding code_of section skip_within write_within matches_within S.shortest S.shortest_groups

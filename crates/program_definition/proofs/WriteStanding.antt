@@ -10,13 +10,13 @@ use Rattle.spec_avro.specs.declared.place.Destination.TheVariants.{Straight, Int
 use Rattle.spec_avro.specs.Matching.{place}
 use Rattle.spec_avro.specs.Options.{given}
 use Rattle.spec_avro.specs.Resolution.{lacking, symbol_for}
-use Rattle.isa.specs.declared.entry.Entry.{Entry}
-use Rattle.isa.specs.declared.entry.Entry.TheVariants as entries
-use Rattle.isa.specs.declared.instr.Instr.TheVariants as op
-use Rattle.isa.specs.Program.{Program}
-use Rattle.program_definition.specs.Statements.{Section, Statement, Op, BytesText, Ahead, Lacks, To, begins, branched, looped, miss, one_of}
-use Rattle.program_definition.specs.Skipping.{K}
-use Rattle.program_definition.specs.Writing.{is_text, placed_node, record_code, straight_node, target, write_node, write_within}
+use Rattle.spec_machine.specs.declared.entry.Entry.{Entry}
+use Rattle.spec_machine.specs.declared.entry.Entry.TheVariants as entries
+use Rattle.spec_machine.specs.declared.instr.Instr.TheVariants as op
+use Rattle.spec_machine.specs.Program.{Program}
+use Rattle.spec_machine.specs.Statements.{Section, Statement, Op, BytesText, Ahead, Lacks, To, begins, branched, looped, miss, one_of}
+use Rattle.spec_machine.specs.Skipping.{K}
+use Rattle.spec_machine.specs.Writing.{is_text, placed_node, record_code, straight_node, target, write_node, write_within}
 use Rattle.program_definition.specs.SkipStands.{Skips}
 use Rattle.program_definition.specs.Stands.{AreEntries, IsEntry, Writes, WritesPlain, WritesMembers, Straights, x_plain, x_union, x_into, x_nowhere, x_unmatched, x_straight, s_null, s_boolean, s_int, s_long, s_bytes, s_bytes_text, s_text, s_fixed, s_enum, s_array, s_map, s_lacking, s_record, x_no_member, x_last, x_member}
 use Rattle.program_definition.proofs.Placed.{AreTargets, IsTarget, Placed, placed_front, placed_back}

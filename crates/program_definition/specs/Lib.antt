@@ -1,10 +1,6 @@
-pub mod Statements
-pub mod Skipping
-pub mod Writing
-pub mod Numbering
-pub mod Code
 pub mod SkipStands
 pub mod Stands
 pub mod Linking
 pub mod Limits
 pub mod Worked
+pub mod Laws

@@ -1,12 +1,12 @@
 -- When there is no program. This project's own.
 use Rattle.std.specs.Prelude.{◌≡◌, ℕ, true, false, List, [], ◌∷◌, Some, None}
 use Rattle.spec_avro.specs.Node.{Node}
-use Rattle.isa.specs.Judging.{is_within_limits}
-use Rattle.isa.specs.Program.{Program}
-use Rattle.program_definition.specs.Code.{are_whole, code_of, statements_of, reached, start_in}
-use Rattle.program_definition.specs.Statements.{Section, Main}
-use Rattle.program_definition.specs.Numbering.{numbered}
-use Rattle.program_definition.specs.Writing.{section}
+use Rattle.spec_machine.specs.Judging.{is_within_limits}
+use Rattle.spec_machine.specs.Program.{Program}
+use Rattle.spec_machine.specs.Code.{are_whole, code_of, statements_of, reached, start_in}
+use Rattle.spec_machine.specs.Statements.{Section, Main}
+use Rattle.spec_machine.specs.Numbering.{numbered}
+use Rattle.spec_machine.specs.Writing.{section}
 
 -- the program of these sections, whatever its size
 abbrev pub whole_program : List Node → List Node → List Section → Program

@@ -1,14 +1,14 @@
 -- What the program of a pair is, address by address, and that it is a program. All of this is this project's own.
 use Rattle.std.specs.Prelude.{◌≡◌, ℕ, true, List, Some}
 use Rattle.spec_avro.specs.Node.{Node}
-use Rattle.isa.specs.Program.{Program}
-use Rattle.isa.specs.Range.{IsProgram}
-use Rattle.program_definition.specs.Code.{code_of, start_in}
-use Rattle.program_definition.specs.Statements.{Section, Write, Skip}
-use Rattle.program_definition.specs.Numbering.{has, same_section}
+use Rattle.spec_machine.specs.Program.{Program}
+use Rattle.spec_machine.specs.Range.{IsProgram}
+use Rattle.spec_machine.specs.Code.{code_of, start_in}
+use Rattle.spec_machine.specs.Statements.{Section, Write, Skip}
+use Rattle.spec_machine.specs.Numbering.{has, same_section}
 use Rattle.program_definition.specs.SkipStands.{SkipRoutine}
 use Rattle.program_definition.specs.Stands.{Opening, Routine}
-use Rattle.program_definition.specs.Writing.{section}
+use Rattle.spec_machine.specs.Writing.{section}
 
 -- the section is one of these, and begins at that address
 pub record BeginsIn (W R : List Node) (listed : List Section) (s : Section) (a : ℕ) : Type 0 where

@@ -13,13 +13,13 @@ use Rattle.spec_avro.specs.declared.place.Destination.TheVariants.{Straight, Int
 use Rattle.spec_avro.specs.Matching.{place}
 use Rattle.spec_avro.specs.Partners.{has_partner, routes}
 use Rattle.spec_avro.specs.Resolution.{lacking, symbol_for}
-use Rattle.isa.specs.declared.entry.Entry.{Entry}
-use Rattle.isa.specs.declared.entry.Entry.TheVariants as entries
-use Rattle.isa.specs.declared.instr.Instr.TheVariants as op
-use Rattle.isa.specs.Program.{Program}
-use Rattle.program_definition.specs.Statements.{Section, Write, miss}
+use Rattle.spec_machine.specs.declared.entry.Entry.{Entry}
+use Rattle.spec_machine.specs.declared.entry.Entry.TheVariants as entries
+use Rattle.spec_machine.specs.declared.instr.Instr.TheVariants as op
+use Rattle.spec_machine.specs.Program.{Program}
+use Rattle.spec_machine.specs.Statements.{Section, Write, miss}
 use Rattle.program_definition.specs.SkipStands.{At, Skips}
-use Rattle.program_definition.specs.Writing.{is_text}
+use Rattle.spec_machine.specs.Writing.{is_text}
 
 -- what a symbol becomes: its position with the reader, or a miss
 abbrev pub IsEntry : Program → (w r : ℕ) → Option ℕ → Entry → Type 0

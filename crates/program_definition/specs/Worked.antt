@@ -3,11 +3,11 @@ use Rattle.std.specs.Prelude.{◌≡◌, ℕ, pos, List, [], ◌∷◌, Some, No
 use Rattle.spec_avro.specs.Datum.{LongDatum}
 use Rattle.spec_avro.specs.Node.{Node, Names, FieldNode, NullNode, LongNode, TextNode, BytesNode, UnionNode, ArrayNode, RecordNode, EnumNode}
 use Rattle.spec_avro.specs.declared.mismatch.MismatchKind.TheVariants as kinds
-use Rattle.isa.specs.declared.entry.Entry.TheVariants as entries
-use Rattle.isa.specs.declared.instr.Instr.TheVariants as op
-use Rattle.isa.specs.Program.{Program}
-use Rattle.program_definition.specs.Code.{code_of}
-use Rattle.program_definition.specs.Statements.{miss}
+use Rattle.spec_machine.specs.declared.entry.Entry.TheVariants as entries
+use Rattle.spec_machine.specs.declared.instr.Instr.TheVariants as op
+use Rattle.spec_machine.specs.Program.{Program}
+use Rattle.spec_machine.specs.Code.{code_of}
+use Rattle.spec_machine.specs.Statements.{miss}
 
 -- names and fields of one letter
 abbrev pub names : ℕ → List (List ℕ) → Names

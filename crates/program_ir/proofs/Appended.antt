@@ -5,12 +5,12 @@ use Rattle.std.proofs.lemmas.List.{length-map, map-append}
 use Rattle.std.proofs.lemmas.Option.{slice_get-get_or}
 use Rattle.spec_avro.specs.declared.limits.TheConstants.{MOST_FIELDS}
 use Rattle.spec_avro.specs.Node.{Node}
-use Rattle.isa.specs.declared.instr.Instr.{Instr}
-use Rattle.isa.specs.declared.instr.Instr.TheVariants as op
+use Rattle.spec_machine.specs.declared.instr.Instr.{Instr}
+use Rattle.spec_machine.specs.declared.instr.Instr.TheVariants as op
 use Rattle.spec_avro.specs.declared.place.Partner.{Partner}
 use Rattle.spec_avro.specs.declared.place.Route.{Route}
 use Rattle.spec_avro.specs.Options.{given}
-use Rattle.program_definition.specs.Statements.{Statement, Op, Ahead, Back, looped}
+use Rattle.spec_machine.specs.Statements.{Statement, Op, Ahead, Back, looped}
 use Rattle.program_ir.specs.declared.statements.Statement as rust
 use Rattle.program_ir.specs.Statements.{HasSlot, statements_in, statement_of, slot_statements}
 

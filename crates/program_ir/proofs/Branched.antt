@@ -2,8 +2,8 @@
 use Rattle.std.proofs.Common.{◌≡◌, ◌++◌, ◌∷◌, [], ℕ, zero, suc, ◌+◌, List, length, ap, ◌∙◌, append_assoc, append-nil, arith, length-append, refl}
 use Rattle.std.specs.Global.{Vec}
 use Rattle.spec_avro.specs.Node.{Node}
-use Rattle.isa.specs.declared.instr.Instr.TheVariants as op
-use Rattle.program_definition.specs.Statements.{Statement, Ahead, Branch, begins, branched, one_of}
+use Rattle.spec_machine.specs.declared.instr.Instr.TheVariants as op
+use Rattle.spec_machine.specs.Statements.{Statement, Ahead, Branch, begins, branched, one_of}
 use Rattle.program_ir.specs.declared.statements.Statement as rust
 use Rattle.program_ir.specs.Statements.{jump_statements, statements_in, parts_in}
 use Rattle.program_ir.proofs.Appended.{statements_length}

@@ -7,13 +7,14 @@ use Rattle.std.specs.declared.cmp.Ordering.{Ordering}
 use Rattle.std.specs.declared.cmp.Ordering.TheVariants.{Less, Equal, Greater}
 use Rattle.std.specs.Ordering.{is_eq, nat_cmp, ordering_then}
 use Rattle.spec_avro.specs.Options.{or_else}
-use Rattle.program_definition.specs.Statements.{Section, Write, Skip}
-use Rattle.program_definition.specs.Numbering.{adding, calls_of, has, named_in, same_section}
+use Rattle.spec_machine.specs.Statements.{Section, Write, Skip}
+use Rattle.spec_machine.specs.Numbering.{adding, calls_of, has, named_in, same_section}
 use Rattle.spec_avro.specs.Node.{Node}
 use Rattle.program_ir.specs.declared.statements.Statement as rust
 use Rattle.program_ir.specs.declared.statements.Section as parts
 use Rattle.program_ir.specs.Statements.{statement_of, statements_in, section_of}
 use Rattle.program_ir.specs.Sections.{pair_cmp, place, place_from, sections_in}
+use Rattle.program_definition.specs.Laws.Plain.{eq_is}
 
 pub sections_on : (a b : List parts.Section) → sections_in (a ++ b) ≡ sections_in a ++ sections_in b
 sections_on a b = map-append section_of a b
@@ -43,7 +44,7 @@ has_place n s (x ∷ ss) = go (same_section s x) (has_place (suc n) s ss)
     go true ih = refl
     go false ih = ih
 
-or_none : (o : Option ℕ) → or_else o None ≡ o
+pub or_none : (o : Option ℕ) → or_else o None ≡ o
 or_none None = refl
 or_none (Some n) = refl
 
@@ -62,11 +63,8 @@ table_on false s x ss number found was same len fresh old e = e ∙ old ∙ sym 
 
 -- ---- keys that are nodes
 
-nat_at : (a b : ℕ) → is_eq (nat_cmp a b) ≡ (b == a)
+pub nat_at : (a b : ℕ) → is_eq (nat_cmp a b) ≡ (b == a)
 nat_at a b = grind arith
-
-eq_is : (a b : ℕ) → (a == b) ≡ true → a ≡ b
-eq_is a b h = grind arith
 
 pub nat_is : (a b : ℕ) → is_eq (nat_cmp a b) ≡ true → b ≡ a
 nat_is a b at = eq_is b a (sym (nat_at a b) ∙ at)
@@ -77,7 +75,7 @@ skip_at w v = nat_at w v
 pub skip_fresh : (w v : ℕ) (ss : List Section) → place (Skip w) ss ≡ None → is_eq (nat_cmp w v) ≡ true → place (Skip v) ss ≡ None
 skip_fresh w v ss fresh at = ap (λ n. place (Skip n) ss) (nat_is w v at) ∙ fresh
 
-then_at : (a b : Ordering) → is_eq (ordering_then a b) ≡ (is_eq a && is_eq b)
+pub then_at : (a b : Ordering) → is_eq (ordering_then a b) ≡ (is_eq a && is_eq b)
 then_at Less b = refl
 then_at Equal b = refl
 then_at Greater b = refl

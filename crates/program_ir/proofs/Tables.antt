@@ -10,25 +10,22 @@ use Rattle.std.specs.Str.{bytes_eq}
 use Rattle.std.proofs.lemmas.Map.Text.{is_eq-slice_cmp}
 use Rattle.std.proofs.Math.Seq.{drop-cons}
 use Rattle.spec_avro.specs.Node.{Node}
-use Rattle.isa.specs.declared.entry.Entry.TheVariants as entries
+use Rattle.spec_machine.specs.declared.entry.Entry.TheVariants as entries
 use Rattle.spec_avro.specs.Options.{given, or_else}
 use Rattle.spec_avro.specs.declared.mismatch.MismatchKind.TheVariants as kinds
 use Rattle.spec_avro.specs.Resolution.{symbol_for as position_of_symbol}
 use Rattle.spec_avro.specs.MismatchKind.{code_of as code_of_kind}
 use Rattle.spec_avro.specs.declared.mismatch.Mismatch.{Mismatch}
-use Rattle.program_definition.specs.Statements.{Lacks, To, miss}
-use Rattle.program_definition.specs.Numbering.{adding, entry_of, has, number, same_miss}
-use Rattle.program_definition.specs.Writing.{target}
+use Rattle.spec_machine.specs.Statements.{Lacks, To, miss}
+use Rattle.spec_machine.specs.Numbering.{adding, entry_of, has, number, same_miss}
+use Rattle.spec_machine.specs.Writing.{target}
 use Rattle.program_definition.proofs.Numbers.{bytes_is, bytes_refl, miss_is}
 use Rattle.program_ir.specs.Tables.{bytes_cmp, entry_at, found, key_cmp, key_of}
+use Rattle.program_ir.proofs.Numbered.{then_at, or_none, nat_at}
 
 suc_or : (o p : Option ℕ) → option_map suc (or_else o p) ≡ or_else (option_map suc o) (option_map suc p)
 suc_or None p = refl
 suc_or (Some n) p = refl
-
-or_none : (o : Option ℕ) → or_else o None ≡ o
-or_none None = refl
-or_none (Some n) = refl
 
 module _ {A : Type 0} (same : A → A → Bool) where
   found_on : (a x : A) (xs : List A) → found same a (x ∷ xs) ≡ (if same a x then Some 0 else option_map suc (found same a xs))
@@ -101,14 +98,6 @@ module _ {A : Type 0} (same : A → A → Bool) where
       go false x y = y
 
 -- ---- keys
-
-pub nat_at : (a b : ℕ) → is_eq (nat_cmp a b) ≡ (b == a)
-nat_at a b = grind arith
-
-pub then_at : (a b : Ordering) → is_eq (ordering_then a b) ≡ (is_eq a && is_eq b)
-then_at Less b = refl
-then_at Equal b = refl
-then_at Greater b = refl
 
 pub miss_at : (a b : Mismatch) → is_eq (key_cmp (key_of a) (key_of b)) ≡ same_miss b a
 miss_at a b =

@@ -3,8 +3,8 @@ use Rattle.std.specs.Prelude.{◌≡◌, ℕ, suc, List, [], ◌∷◌, map, Opt
 use Rattle.std.specs.declared.cmp.Ordering.{Ordering}
 use Rattle.std.specs.Ordering.{nat_cmp, ordering_then}
 use Rattle.std.specs.BTreeMap.{get}
-use Rattle.program_definition.specs.Statements.{Section, Main, Write, Skip}
-use Rattle.program_definition.specs.Numbering.{same_section}
+use Rattle.spec_machine.specs.Statements.{Section, Main, Write, Skip}
+use Rattle.spec_machine.specs.Numbering.{same_section}
 use Rattle.program_ir.specs.declared.statements.Section as rust
 use Rattle.program_ir.specs.declared.sections.Sections.TheInside.{Inside}
 use Rattle.program_ir.specs.Statements.{section_of}

@@ -5,8 +5,8 @@ use Rattle.spec_avro.specs.Shortest.{shortest}
 use Rattle.spec_avro.specs.Node.{Node, FieldNode, EnumNode, RecordNode}
 use Rattle.spec_avro.specs.declared.limits.TheConstants.{MOST_FIELDS}
 use Rattle.spec_avro.specs.Writing.{written}
-use Rattle.isa.specs.declared.instr.Instr.{Instr}
-use Rattle.isa.specs.declared.instr.Instr.TheVariants as op
+use Rattle.spec_machine.specs.declared.instr.Instr.{Instr}
+use Rattle.spec_machine.specs.declared.instr.Instr.TheVariants as op
 use Rattle.spec_avro.specs.declared.place.Route.{Route}
 use Rattle.spec_avro.specs.Options.{given}
 use Rattle.spec_avro.specs.declared.mismatch.MismatchKind.TheVariants as kinds
@@ -18,8 +18,8 @@ use Rattle.program_ir.specs.declared.statements.Statement as rust
 use Rattle.program_ir.specs.declared.statements.Statement.TheVariants as statements
 use Rattle.program_ir.specs.declared.statements.Section as sections
 use Rattle.program_ir.specs.declared.statements.Section.TheVariants as parts
-use Rattle.program_definition.specs.Statements.{Statement, Op, Put, Miss, BytesText, Enum, Call, Ahead, Back, Branch, Lost, Section, Main, Write, Skip, Target, miss}
-use Rattle.program_definition.specs.Writing.{target}
+use Rattle.spec_machine.specs.Statements.{Statement, Op, Put, Miss, BytesText, Enum, Call, Ahead, Back, Branch, Lost, Section, Main, Write, Skip, Target, miss}
+use Rattle.spec_machine.specs.Writing.{target}
 
 abbrev pub go_of : Go → ℕ → Instr
 go_of goes.Next a = op.Next a

@@ -6,12 +6,12 @@ use Rattle.std.specs.Cmp.Lexicographic.{slice_cmp}
 use Rattle.std.specs.BTreeMap.{get}
 use Rattle.std.specs.Global.{Vec}
 use Rattle.std.specs.Str.{bytes_eq}
-use Rattle.isa.specs.declared.entry.Entry.{Entry}
-use Rattle.isa.specs.declared.entry.Entry.TheVariants as entries
+use Rattle.spec_machine.specs.declared.entry.Entry.{Entry}
+use Rattle.spec_machine.specs.declared.entry.Entry.TheVariants as entries
 use Rattle.spec_avro.specs.Options.{given}
 use Rattle.spec_avro.specs.MismatchKind.{code_of as code_of_kind}
 use Rattle.spec_avro.specs.declared.mismatch.Mismatch.{Mismatch}
-use Rattle.program_definition.specs.Numbering.{has, number, same_miss}
+use Rattle.spec_machine.specs.Numbering.{has, number, same_miss}
 use Rattle.program_ir.specs.declared.constants.Constants.TheInside as constants
 use Rattle.program_ir.specs.declared.misses.Misses.TheInside as misses
 

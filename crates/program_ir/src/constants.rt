@@ -2,7 +2,7 @@
 
 ghost use Rattle.std.specs.Prelude.{◌≡◌, ◌++◌, ◌∷◌, [], None, length, IfOk};
 ghost use Rattle.std.specs.Str.{bytes_eq};
-ghost use Rattle.program_definition.specs.Numbering.{adding, number};
+ghost use Rattle.spec_machine.specs.Numbering.{adding, number};
 ghost use Rattle.program_ir.specs.Tables.{found};
 
 use isa::Lists;

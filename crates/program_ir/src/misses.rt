@@ -1,7 +1,7 @@
 //! The misses that statements refer to, each once.
 
 ghost use Rattle.std.specs.Prelude.{◌≡◌, ◌++◌, ◌∷◌, [], None, length, OnErr, OnOk};
-ghost use Rattle.program_definition.specs.Numbering.{adding, number, same_miss};
+ghost use Rattle.spec_machine.specs.Numbering.{adding, number, same_miss};
 ghost use Rattle.program_ir.specs.Tables.{found, key_of as key_of_miss};
 
 use avro_bytes::Mismatch;

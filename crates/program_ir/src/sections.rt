@@ -2,8 +2,8 @@
 
 ghost use Rattle.std.specs.Prelude.{◌≡◌, ◌++◌, ◌∷◌, List, [], None, Some, option_map, slice_get, IfOk, OnOk};
 ghost use Rattle.spec_avro.specs.Node.{Node};
-ghost use Rattle.program_definition.specs.Statements.{Main, Skip, Write};
-ghost use Rattle.program_definition.specs.Numbering.{adding, calls_of, named_in, same_section};
+ghost use Rattle.spec_machine.specs.Statements.{Main, Skip, Write};
+ghost use Rattle.spec_machine.specs.Numbering.{adding, calls_of, named_in, same_section};
 ghost use Rattle.program_ir.specs.Statements.{statement_of, statements_in, section_of};
 ghost use Rattle.program_ir.specs.Sections.{place};
 
@@ -22,7 +22,7 @@ pub struct Sections {
 
 impl Model for Sections {
     ghost use Rattle.std.specs.Prelude.{List};
-    ghost use Rattle.program_definition.specs.Statements.{Section};
+    ghost use Rattle.spec_machine.specs.Statements.{Section};
     ghost use Rattle.program_ir.specs.Sections.{AreNumbered, sections_in};
 
     ghost Value = { List Section };

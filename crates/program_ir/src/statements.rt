@@ -2,7 +2,7 @@
 
 ghost use Rattle.std.specs.Prelude.{◌≡◌, ◌++◌, ◌∷◌, ◌<◌, List, [], IfSome, OnOk, length, slice_get};
 ghost use Rattle.spec_avro.specs.Node.{Node};
-ghost use Rattle.program_definition.specs.Statements.{branched, looped, miss};
+ghost use Rattle.spec_machine.specs.Statements.{branched, looped, miss};
 ghost use Rattle.program_ir.specs.Statements.{HasSlot, go_of, jump_statements, statement_of, statements_in, parts_in, record_statement, routine_statements, slot_statements};
 
 use avro_bytes::{Mismatch, MismatchKind};

@@ -1,8 +1,8 @@
 //! What a writer's symbol becomes with a reader's enum.
 
 ghost use Rattle.std.specs.Prelude.{◌≡◌, ◌≤◌, length, map, slice_get, string_bytes, IfOk};
-ghost use Rattle.program_definition.specs.Numbering.{entry_of};
-ghost use Rattle.program_definition.specs.Writing.{target};
+ghost use Rattle.spec_machine.specs.Numbering.{entry_of};
+ghost use Rattle.spec_machine.specs.Writing.{target};
 ghost use Rattle.program_ir.specs.Tables.{entry_at};
 ghost use Rattle.spec_avro.specs.Resolution.{symbol_for as position_of_symbol};
 

@@ -7,10 +7,7 @@ use Rattle.registry_store.specs.declared.store.CommandStore.{CommandStore}
 use Rattle.registry_store.specs.Schemas.{registrations}
 use Rattle.registry_store.specs.declared.upstream_fault.UpstreamStoreFault.{UpstreamStoreFault}
 use Rattle.registry_store.specs.declared.upstream_opening.UpstreamStore.{UpstreamStore}
-
-pub on-ok : {T E : Type 0} (A B : Type 0) → (A → B) → (r : Result T E) → OnOk r A → OnOk r B
-on-ok A B f (Ok t) a = f a
-on-ok A B f (Err e) a = tt
+use Rattle.registry_store.specs.Laws.Plain.{on-ok}
 
 -- a store, and the disk that its crash left
 module _ {D : Type 0} (seen : D → List ℕ) (may_leave : D → List ℕ → Type 0) (is_clean : D → Bool) (url : List ℕ)

@@ -4,3 +4,4 @@ pub mod Reading
 pub mod Store
 pub mod Cause
 pub mod Schemas
+pub mod Laws

@@ -8,6 +8,7 @@ use Rattle.spec_avro.specs.Node.{Node}
 use Rattle.resolver.proofs.Leading.{among_leads, bad_told, leads_among}
 use Rattle.resolver.specs.NextPairs.{Among, next_pairs, is_bad, unless}
 use Rattle.spec_avro.specs.Safety.{Pair, Reached, root, step, IsSafe}
+use Rattle.resolver.specs.Laws.Plain.{among_one}
 
 -- good, and all that comes next is there
 abbrev pub IsFine : List Node → List Node → List Pair → Pair → Type 0
@@ -17,11 +18,6 @@ fine_one : (W R : List Node) (all ps : List Pair) → AllByRecursion (IsFine W R
 fine_one W R all [] f p a = absurd a
 fine_one W R all (x ∷ ps) f p (inl e) = subst (IsFine W R all) (sym e) f.0
 fine_one W R all (x ∷ ps) f p (inr a) = fine_one W R all ps f.1 p a
-
-among_one : (all ps : List Pair) → AllByRecursion (λ q. Among q all) ps → (q : Pair) → Among q ps → Among q all
-among_one all [] f q a = absurd a
-among_one all (x ∷ ps) f q (inl e) = subst (λ (y : Pair). Among y all) (sym e) f.0
-among_one all (x ∷ ps) f q (inr a) = among_one all ps f.1 q a
 
 -- each reached pair is among them
 closed_among : (W R : List Node) (all : List Pair) → Among (0, 0) all → AllByRecursion (IsFine W R all) all → (p : Pair) → Reached W R p → Among p all

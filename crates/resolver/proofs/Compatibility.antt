@@ -18,6 +18,7 @@ use Rattle.spec_avro.specs.Safety.{GoesStraight, IsReadable, IsSafe, Pair, Reach
 use Rattle.resolver.proofs.Fitting.{is_a_union, node_fits}
 use Rattle.resolver.proofs.Members.{found, member_in, never_else, no_union_at}
 use Rattle.resolver.proofs.Seats.{AreOf, fields_are_of}
+use Rattle.resolver.specs.Laws.Plain.{within, not_into, straight_if}
 
 then_readable : {A B : Type 0} (x : Resolved A) (f : A → Resolved B) → IsReadable x → ((a : A) → x ≡ Ok a → IsReadable (f a)) → IsReadable (x >>= f)
 then_readable (Ok a) f x h = h a refl
@@ -30,19 +31,6 @@ text_readable false w r bytes = refl
 bytes_readable : (o : Option Node) (w r : ℕ) (bytes : List ℕ) → IsReadable (bytes_for o w r bytes)
 bytes_readable (Some TextNode) w r bytes = text_readable (is_utf8 bytes) w r bytes
 bytes_readable o w r bytes = tt
-
-straight_if : (b : Bool) → cond b Straight Unmatched ≡ Straight → b ≡ true
-straight_if true e = refl
-straight_if false e = absurd cc
-
-not_into : (b : Bool) (position node : ℕ) → cond b Straight Unmatched ≡ IntoMember position node → ⊥
-not_into true position node e = cc
-not_into false position node e = cc
-
-within : (xs : List (List ℕ)) (n : ℕ) → n < length xs → (x : List ℕ) × (slice_get xs n ≡ Some x)
-within [] n lt = absurd (omega arith)
-within (x ∷ xs) zero lt = (x, refl)
-within (x ∷ xs) (suc n) lt = within xs n (omega arith)
 
 module _ (W R : List Node) (formed : IsWellFormed R) (safe : IsSafe W R) where
   -- a datum goes straight only where the node matches and is no union

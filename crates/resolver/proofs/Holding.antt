@@ -10,26 +10,13 @@ use Rattle.spec_avro.specs.WellFormed.{IsWellFormed, is_union}
 use Rattle.spec_avro.specs.Matches.{IsPrimitive, Matches, MatchesWhereItHolds, NamesMatch, alias, arrays, bytes_to_string, enums, fixed, int_to_long, maps, primitive, readers_union, records, string_to_bytes, unqualified_names, writers_union}
 use Rattle.spec_avro.specs.Matching.{both_match, have_matching_names, kinds_match, matches, matches_within, names_match, primitives_match, rule}
 use Rattle.resolver.proofs.ByRule.{by_rule}
-
-either : (a b : Bool) → (a || b) ≡ true → (a ≡ true) ⊎ (b ≡ true)
-either true b e = inl refl
-either false b e = inr e
-
-or_left : (a b : Bool) → a ≡ true → (a || b) ≡ true
-or_left true b e = refl
-or_left false b e = absurd cc
-
-or_right : (a b : Bool) → b ≡ true → (a || b) ≡ true
-or_right true b e = refl
-or_right false b e = e
+use Rattle.resolver.specs.Laws.Plain.{either}
+use Rattle.avro_bytes.specs.Laws.Plain.{both}
+use Rattle.std.proofs.lemmas.Bool.{or_left, or_right}
 
 or_false : (b : Bool) → (b || false) ≡ true → b ≡ true
 or_false true e = refl
 or_false false e = e
-
-both : (a b : Bool) → (a && b) ≡ true → (a ≡ true) × (b ≡ true)
-both true b e = (refl, e)
-both false b e = absurd cc
 
 and_true : (a b : Bool) → a ≡ true → b ≡ true → (a && b) ≡ true
 and_true true b e f = f

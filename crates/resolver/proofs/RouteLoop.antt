@@ -5,10 +5,7 @@ use Rattle.spec_avro.specs.Node.{FieldNode}
 use Rattle.avro_types.specs.Node.{fields_of}
 use Rattle.spec_avro.specs.declared.place.Route.{Route}
 use Rattle.spec_avro.specs.Partners.{routes_to}
-
-no_length : {X : Type 0} (xs : List X) → length xs ≡ 0 → xs ≡ []
-no_length [] e = refl
-no_length (x ∷ xs) e = absurd (omega arith)
+use Rattle.resolver.proofs.Items.{no_length}
 
 no_partners : (rs ws : List FieldNode) → routes_to rs ws [] ≡ []
 no_partners rs [] = refl

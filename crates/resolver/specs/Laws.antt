@@ -1,2 +1,3 @@
 pub mod Fields
 pub mod Placed
+pub mod Plain

@@ -1,6 +1,7 @@
 //! The outcome of a payload on trees of data.
 
-ghost use Rattle.resolver.specs.Outcome.{Transcodes, WritesOutcome};
+ghost use Rattle.spec_avro.specs.Transcoding.{Transcodes};
+ghost use Rattle.resolver.specs.Outcome.{WritesOutcome};
 ghost use Rattle.avro_types.specs.Datum.{datum_of};
 
 use crate::mismatch::ResolveError;
@@ -8,17 +9,8 @@ use crate::resolving::resolve;
 use avro_bytes::{MOST_PAYLOAD, Outcome};
 use avro_datum::{PayloadError, WriteError, read_all, write};
 use avro_types::{Datum, Nodes};
+pub use spec_avro::TranscodeError;
 use std::alloc::Global;
-use thiserror::Error;
-
-/// Why there is no outcome, the first reason.
-#[derive(Clone, Copy, Debug, PartialEq, Eq, Error)]
-pub enum TranscodeError {
-    #[error("the payload passes its limit")]
-    TooLarge,
-    #[error("out of memory")]
-    NoMemory,
-}
 
 /// Encodes a resolved datum and returns the outcome: done with the bytes, or `OutputTooLarge`.
 fn write_resolved(alloc: Global, resolved: &Datum) -> Result<Outcome, TranscodeError>

@@ -1,20 +1,14 @@
 -- Whether a pair is among others, and the others with it.
 use Rattle.std.proofs.Common.{◌≡◌, Bool, true, false, ◌&&◌, ◌||◌, List, [], ◌∷◌, ◌++◌, refl, sym, ap, ◌∙◌, inl, inr, ◌⊎◌}
-use Rattle.std.proofs.lemmas.Bool.{eqb-true, eq-eqb}
+use Rattle.std.proofs.lemmas.Bool.{eqb-true, eq-eqb, or_left, or_right}
 use Rattle.std.specs.Prelude.{◌==◌, if◌then◌else◌}
 use Rattle.resolver.specs.NextPairs.{Among}
 use Rattle.schema_check.specs.Pairs.{is_among, is_same_pair, with_one}
 use Rattle.spec_avro.specs.Safety.{Pair}
+use Rattle.resolver.specs.Laws.Plain.{either}
+use Rattle.avro_bytes.specs.Laws.Plain.{both}
 
 -- ---- whether a pair is among others
-
-either : (a b : Bool) → (a || b) ≡ true → (a ≡ true) ⊎ (b ≡ true)
-either true b e = inl refl
-either false b e = inr e
-
-both : (a b : Bool) → (a && b) ≡ true → (a ≡ true) × (b ≡ true)
-both true b e = (refl, e)
-both false b e = absurd cc
 
 same_pair : (p q : Pair) → is_same_pair p q ≡ true → p ≡ q
 same_pair p q e =
@@ -32,14 +26,6 @@ among_by q (p ∷ ps) e = elim (either (is_same_pair q p) (is_among q ps) e) [
   | inl h ↦ inl (same_pair q p h)
   | inr h ↦ inr (among_by q ps h)
 ]
-
-or_left : (a b : Bool) → a ≡ true → (a || b) ≡ true
-or_left true b e = refl
-or_left false b e = absurd cc
-
-or_right : (a b : Bool) → b ≡ true → (a || b) ≡ true
-or_right true b e = refl
-or_right false b e = e
 
 pub among_there : (q : Pair) (ps : List Pair) → Among q ps → is_among q ps ≡ true
 among_there q [] a = absurd a

@@ -13,7 +13,8 @@ use Rattle.resolver.specs.NextPairs.{lacks_field, lacks_symbol}
 use Rattle.spec_avro.specs.Resolution.{field_lists, symbol_at}
 use Rattle.spec_avro.specs.Safety as safe
 use Rattle.spec_avro.specs.Safety.{GoesStraight, IsBad, Pair}
-use Rattle.schema_check.proofs.Lacking.{lack_by, lack_there, missing_by, missing_there}
+use Rattle.schema_check.proofs.Lacking.{lack_by, lack_there, missing_by}
+use Rattle.resolver.specs.Laws.Plain.{missing_there}
 
 not_union_kind : (p : Destination) (w r : Option Node) → is_union w ≡ false → kind_from p w r ≡ placed_kind p w r
 not_union_kind p (Some (UnionNode ms)) r u = absurd cc

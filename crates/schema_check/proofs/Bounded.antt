@@ -21,6 +21,7 @@ use Rattle.spec_avro.specs.Safety.{LeadsTo, Pair, Reached, root, step, to_branch
 use Rattle.resolver.proofs.Marks.{all_false, count_set, in_table, marks_le, none_marked, same_place}
 use Rattle.resolver.proofs.Within.{routes_within}
 use Rattle.schema_check.specs.Pairs.{AreOnce}
+use Rattle.resolver.specs.Laws.Plain.{not_into}
 
 -- ---- a list of pairs, each once
 
@@ -74,10 +75,6 @@ both_records (Some (RecordNode n fs)) (Some (RecordNode m gs)) ws rs e =
     let same : (fs, gs) ≡ (ws, rs) = cc in
     (n, m, ap (λ (x : List FieldNode × List FieldNode). Some (RecordNode n x.0)) same, ap (λ (x : List FieldNode × List FieldNode). Some (RecordNode m x.1)) same)
 both_records w r ws rs e = absurd cc
-
-not_into : (b : Bool) (position node : ℕ) → cond b Straight Unmatched ≡ IntoMember position node → ⊥
-not_into true position node e = cc
-not_into false position node e = cc
 
 route_within : (writers readers places : ℕ) (routes : List Route) (i : ℕ) (route : Route) (p : Partner) → AreRoutes writers readers places routes → slice_get routes i ≡ Some route → route.partner ≡ Some p → (route.node < writers) × (p.node < readers)
 route_within writers readers places [] i route p a at has = absurd cc

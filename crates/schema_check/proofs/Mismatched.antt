@@ -20,6 +20,7 @@ use Rattle.resolver.proofs.Members.{found, member_in, never_else, no_union_at}
 use Rattle.resolver.proofs.Seats.{AreOf, fields_are_of}
 use Rattle.schema_check.specs.BadKinds.{no_branch, no_default, no_match, no_symbol}
 use Rattle.schema_check.specs.Mismatches.{HasBadPair, MismatchesHaveBadPairs}
+use Rattle.resolver.specs.Laws.Plain.{within, not_into, straight_if}
 
 then_has_pair : {A B : Type 0} (W R : List Node) (x : Resolved A) (f : A → Resolved B) → HasBadPair W R x → ((a : A) → x ≡ Ok a → HasBadPair W R (f a)) → HasBadPair W R (x >>= f)
 then_has_pair W R (Ok a) f x h = h a refl
@@ -32,19 +33,6 @@ text_has_pair W R false w r bytes = inl refl
 bytes_has_pair : (W R : List Node) (o : Option Node) (w r : ℕ) (bytes : List ℕ) → HasBadPair W R (bytes_for o w r bytes)
 bytes_has_pair W R (Some TextNode) w r bytes = text_has_pair W R (is_utf8 bytes) w r bytes
 bytes_has_pair W R o w r bytes = tt
-
-straight_if : (b : Bool) → cond b Straight Unmatched ≡ Straight → b ≡ true
-straight_if true e = refl
-straight_if false e = absurd cc
-
-not_into : (b : Bool) (position node : ℕ) → cond b Straight Unmatched ≡ IntoMember position node → ⊥
-not_into true position node e = cc
-not_into false position node e = cc
-
-within : (xs : List (List ℕ)) (n : ℕ) → n < length xs → (x : List ℕ) × (slice_get xs n ≡ Some x)
-within [] n lt = absurd (omega arith)
-within (x ∷ xs) zero lt = (x, refl)
-within (x ∷ xs) (suc n) lt = within xs n (omega arith)
 
 module _ (W R : List Node) (formed : IsWellFormed R) where
   -- a datum goes straight only where the node matches and is no union

@@ -10,7 +10,8 @@ use Rattle.resolver.proofs.Leading.{among_leads, leads_among}
 use Rattle.schema_check.specs.Pairs.{AreOnce, with_all, with_one}
 use Rattle.schema_check.specs.Walk.{IsWalk}
 use Rattle.schema_check.specs.Ways.{AreParents, HasParent}
-use Rattle.schema_check.proofs.Walked.{LeadsInto, among_one, grown, walked}
+use Rattle.schema_check.proofs.Walked.{LeadsInto, grown, walked}
+use Rattle.resolver.specs.Laws.Plain.{among_one}
 
 in_list : (xs : List Pair) (k : ℕ) → k < length xs → Among (get_or xs k (0, 0)) xs
 in_list [] k lt = absurd (omega arith)

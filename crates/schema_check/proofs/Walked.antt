@@ -10,6 +10,7 @@ use Rattle.resolver.proofs.Leading.{among_leads, leads_among}
 use Rattle.schema_check.specs.Pairs.{AreOnce, with_all, with_one}
 use Rattle.schema_check.specs.Walk.{IsWalk, begun, turn}
 use Rattle.schema_check.proofs.Amid.{by_among, one_new, one_there}
+use Rattle.resolver.specs.Laws.Plain.{among_one}
 
 -- ---- pairs with more of them
 
@@ -60,11 +61,6 @@ grown ps (q ∷ qs) = elim (by_among q ps) as (λ _. Grown ps (q ∷ qs) (with_a
 all_next : (ps more : List Pair) (qs : List Pair) → AllByRecursion (λ q. Among q ps) qs → AllByRecursion (λ q. Among q (ps ++ more)) qs
 all_next ps more [] a = tt
 all_next ps more (q ∷ qs) a = (among_more q ps more a.0, all_next ps more qs a.1)
-
-pub among_one : (all ps : List Pair) → AllByRecursion (λ q. Among q all) ps → (q : Pair) → Among q ps → Among q all
-among_one all [] f q a = absurd a
-among_one all (x ∷ ps) f q (inl e) = subst (λ (y : Pair). Among y all) (sym e) f.0
-among_one all (x ∷ ps) f q (inr a) = among_one all ps f.1 q a
 
 pub one_of : (P : Pair → Type 0) (ps : List Pair) → AllByRecursion P ps → (q : Pair) → Among q ps → P q
 one_of P [] f q a = absurd a

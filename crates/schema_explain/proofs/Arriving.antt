@@ -10,14 +10,11 @@ use Rattle.resolver.proofs.Members.{found, member_in, no_union_at}
 use Rattle.spec_avro.specs.Safety.{GoesStraight}
 use Rattle.schema_explain.specs.Arrivals.{arrival, arrival_at, fate_in, placed_at, straight}
 use Rattle.schema_explain.specs.declared.line.Fate.TheVariants.{Parts}
+use Rattle.resolver.specs.Laws.Plain.{not_into}
 
 no_writers_union : (R : List Node) (p : Destination) (o : Option Node) (r : ℕ) → is_union o ≡ false → arrival_at R p o r ≡ placed_at R p o r
 no_writers_union R p (Some (UnionNode members)) r u = absurd cc
 no_writers_union R p o r u = refl
-
-not_into : (b : Bool) (position node : ℕ) → cond b Straight Unmatched ≡ IntoMember position node → ⊥
-not_into true position node e = cc
-not_into false position node e = cc
 
 module _ (W R : List Node) where
   pub arrival_of_union : (w r : ℕ) (members : List ℕ) → slice_get W w ≡ Some (UnionNode members) → arrival W R w r ≡ straight r Parts

@@ -18,6 +18,7 @@ use Rattle.schema_explain.specs.declared.line.Fate.{Fate}
 use Rattle.schema_explain.specs.declared.line.Fate.TheVariants.{Copied, Promoted, PromotedIfText, Parts}
 use Rattle.schema_explain.proofs.Arriving.{arrival_at_place, arrival_of_union, branch_straight}
 use Rattle.schema_explain.proofs.GoodParts.{never_mismatched}
+use Rattle.resolver.specs.Laws.Plain.{straight_if}
 
 -- what a fate says of the value that a datum has in a node of the reader
 pub record Says (f : Fate) (w node : ℕ) (d : Datum) (v : Resolved Datum) : Type 0 where
@@ -54,10 +55,6 @@ bytes_says (Some TextNode) w node bytes = record {
   if_text = λ other is c. ap (λ (x : List ℕ). cond (is_utf8 x) (Ok (TextDatum x)) (mismatch BytesNotText w node)) (bytes_same bytes other is);
 }
 bytes_says o w node bytes = always_copied w node (BytesDatum bytes)
-
-straight_if : (b : Bool) → cond b Straight Unmatched ≡ Straight → b ≡ true
-straight_if true e = refl
-straight_if false e = absurd cc
 
 module _ (W R : List Node) (formed : IsWellFormed R) where
   no_union : (w r : ℕ) → place W R w r ≡ Straight → is_union (slice_get R r) ≡ false

@@ -2,11 +2,12 @@
 use Rattle.std.proofs.Common.{◌≡◌, ℕ, ◌+◌, ◌*◌, ◌<◌, ◌||◌, Bool, true, false, List, [], ◌∷◌, ◌++◌, length, get_or, refl, sym, ap, ◌∙◌, inl, inr, ◌⊎◌, arith}
 use Rattle.std.proofs.Math.ListN.{set}
 use Rattle.std.proofs.lemmas.List.{get_or-set_same, get_or-set_other, length-set}
-use Rattle.std.proofs.lemmas.Bool.{cases_eq}
+use Rattle.std.proofs.lemmas.Bool.{cases_eq, or_left, or_right as or_second}
 use Rattle.spec_avro.specs.Safety.{Pair}
 use Rattle.resolver.specs.Pairs.{marks}
 use Rattle.resolver.proofs.Marks.{all_false, count_set, marks_le, same_place}
 use Rattle.schema_explain.specs.Pairs.{is_among, is_same_pair}
+use Rattle.resolver.specs.Laws.Plain.{either}
 
 same_itself : (p : Pair) → is_same_pair p p ≡ true
 same_itself p = grind arith
@@ -24,18 +25,6 @@ among_last q (p ∷ ps) = ap (λ (b : Bool). is_same_pair q p || b) (among_last 
 among_other : (p q : Pair) (ps : List Pair) → is_same_pair p q ≡ false → is_among p (ps ++ q ∷ []) ≡ is_among p ps
 among_other p q [] e = ap (λ (b : Bool). b || false) e
 among_other p q (x ∷ ps) e = ap (λ (b : Bool). is_same_pair p x || b) (among_other p q ps e)
-
-or_left : (a b : Bool) → a ≡ true → (a || b) ≡ true
-or_left true b e = refl
-or_left false b e = absurd cc
-
-or_second : (a b : Bool) → b ≡ true → (a || b) ≡ true
-or_second true b e = refl
-or_second false b e = e
-
-either : (a b : Bool) → (a || b) ≡ true → (a ≡ true) ⊎ (b ≡ true)
-either true b e = inl refl
-either false b e = inr e
 
 same_pair : (p q : Pair) → is_same_pair p q ≡ true → p ≡ q
 same_pair p q e = let first : p.0 ≡ q.0 = grind arith in let second : p.1 ≡ q.1 = grind arith in λ i. (first i, second i)

@@ -32,23 +32,11 @@ use Rattle.schema_explain.proofs.BadLines.{IsLineWith, lacking_line, missing_lin
 use Rattle.schema_explain.proofs.Complete.{Complete, complete}
 use Rattle.schema_explain.proofs.Lacking.{lacks_default}
 use Rattle.schema_explain.proofs.Whole.{map_lines, reached_line}
+use Rattle.resolver.specs.Laws.Plain.{within, not_into, straight_if}
 
 then_has_line : {A B : Type 0} (lines : List Line) (x : Resolved A) (f : A → Resolved B) → HasLine lines x → ((a : A) → x ≡ Ok a → HasLine lines (f a)) → HasLine lines (x >>= f)
 then_has_line lines (Ok a) f x h = h a refl
 then_has_line lines (Err m) f x h = x
-
-straight_if : (b : Bool) → cond b Straight Unmatched ≡ Straight → b ≡ true
-straight_if true e = refl
-straight_if false e = absurd cc
-
-not_into : (b : Bool) (position node : ℕ) → cond b Straight Unmatched ≡ IntoMember position node → ⊥
-not_into true position node e = cc
-not_into false position node e = cc
-
-within : (xs : List (List ℕ)) (n : ℕ) → n < length xs → (x : List ℕ) × (slice_get xs n ≡ Some x)
-within [] n lt = absurd (omega arith)
-within (x ∷ xs) zero lt = (x, refl)
-within (x ∷ xs) (suc n) lt = within xs n (omega arith)
 
 module _ (W R : List Node) (writer_formed : IsWellFormed W) (formed : IsWellFormed R) (apart : PartnersAreApart) (lines : List Line) (c : Complete W R (Due roots ∷ []) [] lines) where
   -- ---- lines that show mismatches

@@ -1,14 +1,14 @@
 -- What was kept is accepted again, and the same is kept of it.
 use Rattle.std.proofs.Common.{◌≡◌, ◌⊎◌, inl, inr, ℕ, List, [], ◌∷◌, ◌++◌, map, Bool, true, false, is_some, if◌then◌else◌, Result, Ok, Err, refl, sym, ◌∙◌, ap, subst}
 use Rattle.std.proofs.lemmas.List.{append-nil}
-use Rattle.avro_schema_names.specs.declared.error.SchemaError.{SchemaError}
-use Rattle.avro_schema.specs.Schema.{Declaration}
-use Rattle.schema_registry.specs.Command.{Command, RegisterCommand, SetLevelCommand, LookupCommand, CheckCommand, VersionsCommand, VersionCommand, SubjectsCommand, SchemaCommand, LevelCommand}
-use Rattle.schema_registry.specs.Lists.{Lists, no_lists, versions_of, with_text}
-use Rattle.schema_registry.specs.Reply.{Reply}
-use Rattle.schema_registry.specs.Answer.{IsAnswer}
-use Rattle.schema_registry.specs.Answers.{AreAccepted, no_command, one_more, answer_to}
-use Rattle.schema_registry.specs.Accepting.{declaration_of, id_for, registry_after, taken, taken_all}
+use Rattle.spec_schema.specs.declared.schema_error.SchemaError.{SchemaError}
+use Rattle.spec_schema.specs.Schema.{Declaration}
+use Rattle.spec_registry.specs.Command.{Command, RegisterCommand, SetLevelCommand, LookupCommand, CheckCommand, VersionsCommand, VersionCommand, SubjectsCommand, SchemaCommand, LevelCommand}
+use Rattle.spec_registry.specs.Lists.{Lists, no_lists, versions_of, with_text}
+use Rattle.spec_registry.specs.Reply.{Reply}
+use Rattle.spec_registry.specs.Answer.{IsAnswer}
+use Rattle.spec_registry.specs.Answers.{AreAccepted, no_command, one_more, answer_to}
+use Rattle.spec_registry.specs.Accepting.{declaration_of, id_for, registry_after, taken, taken_all}
 use Rattle.schema_registry.specs.Keeping.{KeptCommand, KeptRegistration, KeptLevel, command_for, registration_kept, kept_of, kept_from, kept_in}
 use Rattle.schema_registry.proofs.Replayed.{again, map-more, kept-more, replayed}
 

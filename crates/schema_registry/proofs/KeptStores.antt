@@ -16,12 +16,13 @@ use Rattle.registry_store.specs.declared.store_fault.OpenFault.TheVariants as op
 use Rattle.schema_registry.specs.declared.kept_registry.opening.StartFault.{StartFault}
 use Rattle.schema_registry.specs.declared.kept_registry.opening.StartFault.TheVariants.{File}
 use Rattle.schema_registry.specs.declared.kept_registry.opening.Started.{Started}
-use Rattle.schema_registry.specs.Answers.{AreAccepted, one_more}
-use Rattle.schema_registry.specs.Command.{Command}
+use Rattle.spec_registry.specs.Answers.{AreAccepted, one_more}
+use Rattle.spec_registry.specs.Command.{Command}
 use Rattle.schema_registry.specs.Keeping.{IsKept, IsLeft, KeptCommand, kept_in}
-use Rattle.schema_registry.specs.Lists.{no_lists}
+use Rattle.spec_registry.specs.Lists.{no_lists}
 use Rattle.schema_registry.specs.Replaying.{stored_as, stored_in}
-use Rattle.schema_registry.specs.Storing.{IsFoundAfter, IsOfFile, IsOfNoRegistry, KeepsStored, LeavesStored, Spoils}
+use Rattle.spec_registry.specs.Storing.{IsFoundAfter}
+use Rattle.schema_registry.specs.Storing.{IsOfFile, IsOfNoRegistry, KeepsStored, LeavesStored, Spoils}
 use Rattle.schema_registry.proofs.Replayed.{kept-more}
 use Rattle.schema_registry.proofs.Replays.{kept-are}
 use Rattle.schema_registry.proofs.Restarts.{same_kept}

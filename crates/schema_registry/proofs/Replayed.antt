@@ -1,11 +1,11 @@
 -- What was kept makes the registry again.
 use Rattle.std.proofs.Common.{◌≡◌, ℕ, List, [], ◌∷◌, ◌++◌, map, Bool, true, false, is_some, if◌then◌else◌, Result, Ok, Err, refl, sym, ◌∙◌, ap, append_assoc}
 use Rattle.std.proofs.lemmas.List.{append-nil}
-use Rattle.avro_schema_names.specs.declared.error.SchemaError.{SchemaError}
-use Rattle.avro_schema.specs.Schema.{Declaration}
-use Rattle.schema_registry.specs.Command.{Command, RegisterCommand, SetLevelCommand, LookupCommand, CheckCommand, VersionsCommand, VersionCommand, SubjectsCommand, SchemaCommand, LevelCommand}
-use Rattle.schema_registry.specs.Lists.{Lists, no_lists, versions_of, with_text}
-use Rattle.schema_registry.specs.Accepting.{declaration_of, id_for, registered, registry_after, taken, taken_all, with_version}
+use Rattle.spec_schema.specs.declared.schema_error.SchemaError.{SchemaError}
+use Rattle.spec_schema.specs.Schema.{Declaration}
+use Rattle.spec_registry.specs.Command.{Command, RegisterCommand, SetLevelCommand, LookupCommand, CheckCommand, VersionsCommand, VersionCommand, SubjectsCommand, SchemaCommand, LevelCommand}
+use Rattle.spec_registry.specs.Lists.{Lists, no_lists, versions_of, with_text}
+use Rattle.spec_registry.specs.Accepting.{declaration_of, id_for, registered, registry_after, taken, taken_all, with_version}
 use Rattle.schema_registry.specs.Keeping.{KeptCommand, KeptRegistration, command_for, registration_kept, kept_of, kept_from, kept_in}
 
 taken_all-more : (lists : Lists) (cs ds : List Command) → taken_all lists (cs ++ ds) ≡ taken_all (taken_all lists cs) ds

@@ -6,23 +6,24 @@ use Rattle.std.specs.Str.{bytes_eq}
 use Rattle.std.proofs.lemmas.List.{append-nil, map-append}
 use Rattle.std.proofs.lemmas.Slice.Eq.{bytes_eq-Decides}
 use Rattle.registry_store.specs.Stored.{Stored, LevelSet}
-use Rattle.schema_registry.specs.declared.level.Level.{Level}
-use Rattle.schema_registry.specs.declared.refusal.Refusal.{Refusal}
-use Rattle.schema_registry.specs.declared.refusal.Refusal.TheVariants.{BadLevel, NoMemory}
+use Rattle.spec_registry.specs.declared.level.Level.{Level}
+use Rattle.spec_registry.specs.declared.refusal.Refusal.{Refusal}
+use Rattle.spec_registry.specs.declared.refusal.Refusal.TheVariants.{BadLevel, NoMemory}
 use Rattle.schema_registry.specs.declared.registry.replaying.ReplayFault.{ReplayFault}
 use Rattle.schema_registry.specs.declared.registry.replaying.ReplayFault.TheVariants.{Refused, OtherId, KnownAlready}
-use Rattle.schema_registry.specs.Accepting.{registry_after}
-use Rattle.schema_registry.specs.Answer.{Answer, Told, WhereSafe, IsAnswer}
-use Rattle.schema_registry.specs.Answers.{AreAccepted, no_command, one_more, answer_to}
-use Rattle.schema_registry.specs.Command.{Command}
+use Rattle.spec_registry.specs.Accepting.{registry_after}
+use Rattle.spec_registry.specs.Answer.{Answer, Told, WhereSafe, IsAnswer}
+use Rattle.spec_registry.specs.Answers.{AreAccepted, no_command, one_more, answer_to}
+use Rattle.spec_registry.specs.Command.{Command}
 use Rattle.schema_registry.specs.Keeping.{KeptCommand, KeptLevel, KeptRegistration, command_for, kept_in, kept_of}
-use Rattle.schema_registry.specs.Level.{all_levels, level_name, level_named}
-use Rattle.schema_registry.specs.Lists.{Lists, no_lists}
+use Rattle.spec_registry.specs.Level.{all_levels, level_name, level_named}
+use Rattle.spec_registry.specs.Lists.{Lists, no_lists}
 use Rattle.schema_registry.specs.Replaying.{IsWhyNotReplayed, stored_as, stored_in, with_id}
-use Rattle.schema_registry.specs.Reply.{Reply}
+use Rattle.spec_registry.specs.Reply.{Reply}
 use Rattle.schema_registry.proofs.KeptAgain.{Few, few}
 use Rattle.schema_registry.proofs.Levels.{by_name, named}
 use Rattle.schema_registry.proofs.Replayed.{kept-more, replayed}
+use Rattle.registry_store.specs.Laws.Plain.{on-ok}
 
 -- ---- one command has what is stored of it
 
@@ -91,10 +92,6 @@ level-why lists subject word l name fault why k same =
     subst (λ (j : KeptCommand). IsWhyNotReplayed lists j fault) is why
 
 -- ---- results
-
-pub on-ok : {T E : Type 0} (A B : Type 0) → (A → B) → (r : Result T E) → OnOk r A → OnOk r B
-on-ok A B f (Ok t) a = f a
-on-ok A B f (Err e) a = tt
 
 pub on-err : {T E : Type 0} (A B : Type 0) → (A → B) → (r : Result T E) → OnErr r A → OnErr r B
 on-err A B f (Ok t) a = tt

@@ -1,19 +1,21 @@
 -- What a registry and its keeper have of each other.
 use Rattle.std.proofs.Common.{◌≡◌, ◌≢◌, ◌⊎◌, inl, inr, ℕ, List, [], ◌∷◌, ◌++◌, map, Bool, true, false, Option, Some, None, Result, Ok, Err, IfErr, OnOk, OnErr, refl, sym, ◌∙◌, ap, subst}
 use Rattle.std.proofs.lemmas.List.{append-nil}
-use Rattle.avro_schema.specs.Schema.{Declaration}
-use Rattle.schema_registry.specs.Command.{Command, subject_in, IsQuestion, RegisterCommand, SetLevelCommand, LookupCommand, CheckCommand, VersionsCommand, VersionCommand, SubjectsCommand, SchemaCommand, LevelCommand}
-use Rattle.schema_registry.specs.Subject.{is_subject}
-use Rattle.schema_registry.specs.Lists.{Lists, no_lists}
-use Rattle.schema_registry.specs.Reply.{IdReply, LevelReply}
+use Rattle.spec_schema.specs.Schema.{Declaration}
+use Rattle.spec_registry.specs.Command.{Command, IsQuestion, RegisterCommand, SetLevelCommand, LookupCommand, CheckCommand, VersionsCommand, VersionCommand, SubjectsCommand, SchemaCommand, LevelCommand}
+use Rattle.schema_registry.specs.Command.{subject_in}
+use Rattle.spec_registry.specs.Subject.{is_subject}
+use Rattle.spec_registry.specs.Lists.{Lists, no_lists}
+use Rattle.spec_registry.specs.Reply.{IdReply, LevelReply}
 use Rattle.schema_registry.specs.declared.decision.Decision.{Decision}
 use Rattle.schema_registry.specs.declared.decision.Decision.TheVariants.{Known, New}
-use Rattle.schema_registry.specs.declared.level.Level.{Level}
-use Rattle.schema_registry.specs.Answer.{Answer, IsAnswer, unless_refused}
-use Rattle.schema_registry.specs.declared.refusal.Refusal.{Refusal}
-use Rattle.schema_registry.specs.declared.refusal.Refusal.TheVariants.{NotStored}
-use Rattle.schema_registry.specs.Answers.{answer_to}
-use Rattle.schema_registry.specs.Accepting.{declaration_of, id_for, registry_after}
+use Rattle.spec_registry.specs.declared.level.Level.{Level}
+use Rattle.spec_registry.specs.Answer.{Answer, IsAnswer}
+use Rattle.schema_registry.specs.Answer.{unless_refused}
+use Rattle.spec_registry.specs.declared.refusal.Refusal.{Refusal}
+use Rattle.spec_registry.specs.declared.refusal.Refusal.TheVariants.{NotStored}
+use Rattle.spec_registry.specs.Answers.{answer_to}
+use Rattle.spec_registry.specs.Accepting.{declaration_of, id_for, registry_after}
 use Rattle.schema_registry.specs.Keeping.{HasVersion, IsDecision, MayFail, KeptCommand, KeptRegistration, KeptLevel, IsLeft, IsKept, command_for, registration_kept, kept_of, kept_in}
 use Rattle.schema_registry.specs.Tables.{AsksToRegister}
 use Rattle.schema_registry.proofs.Added.{added-answer}

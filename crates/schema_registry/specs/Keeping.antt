@@ -1,16 +1,16 @@
 -- Which commands a registry has to find again after a restart. This project's own.
 use Rattle.std.specs.Prelude.{◌≡◌, ◌⊎◌, ℕ, List, [], ◌∷◌, ◌++◌, Bool, true, false, is_some, if◌then◌else◌, Option, Some, None, MatchOption, Result, Ok, Err, ⊤}
-use Rattle.avro_schema_names.specs.declared.error.SchemaError.{SchemaError}
-use Rattle.avro_schema.specs.Schema.{Declaration}
-use Rattle.schema_registry.specs.declared.level.Level.{Level}
+use Rattle.spec_schema.specs.declared.schema_error.SchemaError.{SchemaError}
+use Rattle.spec_schema.specs.Schema.{Declaration}
+use Rattle.spec_registry.specs.declared.level.Level.{Level}
 use Rattle.schema_registry.specs.declared.decision.Decision.{Decision}
 use Rattle.schema_registry.specs.declared.decision.Decision.TheVariants.{Known, New}
-use Rattle.schema_registry.specs.Command.{Command, IsQuestion, RegisterCommand, SetLevelCommand, LookupCommand, CheckCommand, VersionsCommand, VersionCommand, SubjectsCommand, SchemaCommand, LevelCommand}
-use Rattle.schema_registry.specs.Lists.{Lists, level_of, no_lists, versions_of, with_text}
-use Rattle.schema_registry.specs.Accepting.{declaration_of, id_for, registry_after, taken}
-use Rattle.schema_registry.specs.Answer.{AreSafe, IsAnswer}
-use Rattle.schema_registry.specs.Answers.{answer_to, is_full, pairs_of}
-use Rattle.schema_registry.specs.Reply.{Reply}
+use Rattle.spec_registry.specs.Command.{Command, IsQuestion, RegisterCommand, SetLevelCommand, LookupCommand, CheckCommand, VersionsCommand, VersionCommand, SubjectsCommand, SchemaCommand, LevelCommand}
+use Rattle.spec_registry.specs.Lists.{Lists, level_of, no_lists, versions_of, with_text}
+use Rattle.spec_registry.specs.Accepting.{declaration_of, id_for, registry_after, taken}
+use Rattle.spec_registry.specs.Answer.{AreSafe, IsAnswer}
+use Rattle.spec_registry.specs.Answers.{answer_to, is_full, pairs_of}
+use Rattle.spec_registry.specs.Reply.{Reply}
 use Rattle.schema_registry.specs.Tables.{entry_of}
 
 -- ---- deciding what becomes of a registration

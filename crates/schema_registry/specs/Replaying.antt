@@ -6,11 +6,11 @@ use Rattle.registry_store.specs.Stored as lines
 use Rattle.schema_registry.specs.declared.registry.replaying.ReplayFault.{ReplayFault}
 use Rattle.schema_registry.specs.declared.registry.replaying.ReplayFault.TheVariants.{Refused, OtherId, KnownAlready}
 use Rattle.schema_registry.specs.Answer.{Gives}
-use Rattle.schema_registry.specs.Answers.{AreAccepted, answer_to}
-use Rattle.schema_registry.specs.Command.{Command}
+use Rattle.spec_registry.specs.Answers.{AreAccepted, answer_to}
+use Rattle.spec_registry.specs.Command.{Command}
 use Rattle.schema_registry.specs.Keeping.{KeptCommand, KeptLevel, KeptRegistration, command_for, kept_in, kept_of}
-use Rattle.schema_registry.specs.Level.{level_name}
-use Rattle.schema_registry.specs.Lists.{Lists}
+use Rattle.spec_registry.specs.Level.{level_name}
+use Rattle.spec_registry.specs.Lists.{Lists}
 
 -- a registration with another id
 abbrev pub with_id : ℕ → KeptCommand → KeptCommand

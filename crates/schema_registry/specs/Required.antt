@@ -1,10 +1,10 @@
 -- What a schema has to go together with before it becomes a version of a subject. This project's own.
 use Rattle.std.specs.Prelude.{◌≡◌, ℕ, List, map, Some}
-use Rattle.schema_registry_maps.specs.Comparing.{compared}
-use Rattle.schema_registry.specs.declared.level.Level.{Level}
+use Rattle.spec_registry.specs.Comparing.{compared}
+use Rattle.spec_registry.specs.declared.level.Level.{Level}
 use Rattle.schema_registry.specs.declared.requirement.Requirement.{Requirement}
-use Rattle.schema_registry.specs.Level.{is_transitive}
-use Rattle.schema_registry.specs.Lists.{Lists, level_of, versions_of}
+use Rattle.spec_registry.specs.Level.{is_transitive}
+use Rattle.spec_registry.specs.Lists.{Lists, level_of, versions_of}
 
 -- the ids of the versions of a subject that a level names
 abbrev pub ids_compared : Lists → List ℕ → Level → List ℕ

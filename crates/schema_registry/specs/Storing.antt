@@ -1,5 +1,5 @@
 -- A store of commands in a file as what keeps the commands of a registry. This project's own.
-use Rattle.std.specs.Prelude.{◌≡◌, ◌≢◌, ◌⊎◌, ◌∷◌, [], ◌++◌, ℕ, Bool, IsTrue, List, map, Ok}
+use Rattle.std.specs.Prelude.{◌≢◌, ℕ, Bool, IsTrue, List, map}
 use Rattle.registry_store.specs.Cause.{HasCause}
 use Rattle.registry_store.specs.Store.{HasCommands, Keeps, Leaves}
 use Rattle.registry_store.specs.declared.store.CommandStore.{CommandStore}
@@ -8,15 +8,12 @@ use Rattle.registry_store.specs.declared.store_fault.StoreFault.{StoreFault}
 use Rattle.registry_store.specs.declared.store_fault.StoreFault.TheVariants.{NoMemory}
 use Rattle.schema_registry.specs.declared.kept_registry.opening.StartFault.{StartFault}
 use Rattle.schema_registry.specs.declared.kept_registry.opening.StartFault.TheVariants.{File, Line}
-use Rattle.schema_registry.specs.declared.refusal.Refusal.TheVariants as refusals
+use Rattle.spec_registry.specs.declared.refusal.Refusal.TheVariants as refusals
 use Rattle.schema_registry.specs.declared.registry.replaying.ReplayFault.TheVariants.{Refused}
-use Rattle.schema_registry.specs.Accepting.{registry_after}
-use Rattle.schema_registry.specs.Answer.{IsAnswer}
-use Rattle.schema_registry.specs.Answers.{AreAccepted, answer_to}
-use Rattle.schema_registry.specs.Command.{Command}
+use Rattle.spec_registry.specs.Answers.{AreAccepted}
+use Rattle.spec_registry.specs.Command.{Command}
 use Rattle.schema_registry.specs.Keeping.{KeptCommand}
 use Rattle.schema_registry.specs.Replaying.{stored_as, stored_in}
-use Rattle.schema_registry.specs.Reply.{Reply}
 
 module _ {D : Type 0} where
   -- its file has these commands, and nothing else
@@ -52,9 +49,3 @@ IsOfFile (Line line) = line.fault ≢ Refused refusals.NoMemory
 -- the file is that of no registry: it has not what is kept of commands each of which was accepted in its turn
 abbrev pub IsOfNoRegistry : List ℕ → Type 0
 IsOfNoRegistry file = (commands : List Command) → AreAccepted commands → ¬ (HasCommands file (stored_in commands))
-
--- A start found a registry as these commands make it, or with one command more that would have been accepted.
-abbrev pub IsFoundAfter : List Command → List Command → Type 0
-IsFoundAfter commands found = (registry_after found ≡ registry_after commands)
-    ⊎ ((c : Command) × (reply : Reply) × IsAnswer (answer_to (registry_after commands) c) (Ok reply)
-    × (registry_after found ≡ registry_after (commands ++ c ∷ [])))

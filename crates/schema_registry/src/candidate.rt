@@ -2,9 +2,9 @@
 
 ghost use Rattle.std.specs.Prelude.{◌≡◌, ◌↔◌, IfOk, IfSome, IsTrue};
 ghost use Rattle.std.specs.List.{filter_map, flat_map};
-ghost use Rattle.schema_registry.specs.Answer.{AreSafe};
-ghost use Rattle.schema_registry.specs.Answers.{pairs_with};
-ghost use Rattle.schema_registry.specs.Lists.{numbered};
+ghost use Rattle.spec_registry.specs.Answer.{AreSafe};
+ghost use Rattle.spec_registry.specs.Answers.{pairs_with};
+ghost use Rattle.spec_registry.specs.Lists.{numbered};
 
 use crate::compatible::goes_with;
 use crate::level::Level;
@@ -34,7 +34,7 @@ pub(crate) struct Candidate<'s> {
 impl<'s> Model for Candidate<'s> {
     ghost use Rattle.std.specs.Coded.{codes};
     ghost use Rattle.avro_types.specs.DatumCode.{datum_coded};
-    ghost use Rattle.avro_schema.specs.Schema.{Declaration};
+    ghost use Rattle.spec_schema.specs.Schema.{Declaration};
 
     ghost Value = { Declaration };
 

@@ -4,15 +4,7 @@ ghost use Rattle.std.specs.Prelude.{◌≡◌, ◌⊎◌, ◌++◌, [], ◌∷�
 ghost use Rattle.schema_registry.specs.Keeping.{KeptCommand, KeptLevel, KeptRegistration};
 
 use crate::level::Level;
-
-/// Why a command was not kept.
-#[derive(Clone, Copy, Debug, PartialEq, Eq)]
-pub enum KeepFault {
-    /// Memory ran out before anything was kept.
-    NoMemory,
-    /// The keeper could not keep it, or takes no more.
-    NotStored,
-}
+pub use spec_registry::KeepFault;
 
 /// Keeps commands, in their order.
 pub trait Keeper {

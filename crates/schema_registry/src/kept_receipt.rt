@@ -1,7 +1,7 @@
 //! What a receipt says, kept where threads share it.
 
 ghost use Rattle.std.specs.Prelude.{◌≡◌};
-ghost use Rattle.schema_registry.specs.Receipt.{IsReceiptOf};
+ghost use Rattle.spec_registry.specs.Receipt.{IsReceiptOf};
 
 use crate::shared::{Receipt, SharedRegistry};
 use avro_schema::Schema;
@@ -18,7 +18,7 @@ pub struct KeptReceipt {
 impl Model for KeptReceipt {
     ghost use Rattle.std.specs.Coded.{codes};
     ghost use Rattle.avro_types.specs.DatumCode.{datum_coded};
-    ghost use Rattle.schema_registry.specs.Receipt.{Shown};
+    ghost use Rattle.spec_registry.specs.Receipt.{Shown};
 
     ghost Value = { Shown };
 

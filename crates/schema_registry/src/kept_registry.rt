@@ -1,13 +1,15 @@
 //! A registry whose commands are kept, so that they are there after a restart.
 
 ghost use Rattle.std.specs.Prelude.{◌≡◌, ◌≢◌, ◌<◌, ◌≤◌, ◌⊎◌, ◌++◌, [], ◌∷◌, ℕ, IfErr, IfOk, Some, None, Ok, Err, OnOk, OnErr, option_map, string_bytes};
-ghost use Rattle.schema_registry.specs.declared.limits.TheConstants.{MOST_SCHEMAS};
-ghost use Rattle.schema_registry.specs.Accepting.{id_for, registry_after};
-ghost use Rattle.schema_registry.specs.Answer.{Gives, IsAnswer};
-ghost use Rattle.schema_registry.specs.Answers.{GivesId, Grows, answer_to};
-ghost use Rattle.schema_registry.specs.Command.{IsQuestion, RegisterCommand, SetLevelCommand, command_of, subject_in};
+ghost use Rattle.spec_registry.specs.declared.limits.TheConstants.{MOST_SCHEMAS};
+ghost use Rattle.spec_registry.specs.Accepting.{id_for, registry_after};
+ghost use Rattle.schema_registry.specs.Answer.{Gives};
+ghost use Rattle.spec_registry.specs.Answer.{IsAnswer};
+ghost use Rattle.spec_registry.specs.Answers.{GivesId, Grows, answer_to};
+ghost use Rattle.spec_registry.specs.Command.{IsQuestion, RegisterCommand, SetLevelCommand};
+ghost use Rattle.schema_registry.specs.Command.{command_of, subject_in};
 ghost use Rattle.schema_registry.specs.Keeping.{IsDecision, KeptLevel, KeptRegistration, MayAdd, MayFail};
-ghost use Rattle.schema_registry.specs.Reply.{LevelReply};
+ghost use Rattle.spec_registry.specs.Reply.{LevelReply};
 ghost use Rattle.schema_registry.specs.Tables.{AsksToRegister};
 
 mod crashing;
@@ -18,12 +20,12 @@ use crate::command::Command;
 use crate::decision::Decision;
 use crate::keeper::{KeepFault, Keeper};
 use crate::level::Level;
-use crate::refusal::Refusal;
 use crate::registry::Registry;
 use crate::registry::registering::schema_for;
 use crate::reply::Reply;
 pub use crashing::Aftermath;
 pub use opening::{StartFault, Started};
+use spec_registry::Refusal;
 use std::marker::Model;
 
 /// Returns the refusal of a level that was not kept.

@@ -1,16 +1,16 @@
 //! Laws of what a registry replies.
 
 ghost use Rattle.std.specs.Prelude.{◌≡◌, ◌++◌, ℕ, Err, List, Some, map};
-ghost use Rattle.avro_schema.specs.Schema.{Declaration};
-ghost use Rattle.avro_schema_names.specs.declared.error.SchemaError.TheVariants.{NoMemory};
-ghost use Rattle.schema_registry.specs.declared.refusal.Refusal.TheVariants.{BadSchema};
-ghost use Rattle.schema_registry.specs.Answer.{IsAnswer};
-ghost use Rattle.schema_registry.specs.Accepting.{registry_after};
-ghost use Rattle.schema_registry.specs.Answers.{AreAccepted, answer_to};
-ghost use Rattle.schema_registry.specs.Command.{Command};
+ghost use Rattle.spec_schema.specs.Schema.{Declaration};
+ghost use Rattle.spec_schema.specs.declared.schema_error.SchemaError.TheVariants.{NoMemory};
+ghost use Rattle.spec_registry.specs.declared.refusal.Refusal.TheVariants.{BadSchema};
+ghost use Rattle.spec_registry.specs.Answer.{IsAnswer};
+ghost use Rattle.spec_registry.specs.Accepting.{registry_after};
+ghost use Rattle.spec_registry.specs.Answers.{AreAccepted, answer_to};
+ghost use Rattle.spec_registry.specs.Command.{Command};
 ghost use Rattle.schema_registry.specs.Keeping.{command_for, kept_in};
-ghost use Rattle.schema_registry.specs.Lists.{Lists, numbered};
-ghost use Rattle.schema_registry.specs.Shared.{IsSomeRefusal};
+ghost use Rattle.spec_registry.specs.Lists.{Lists, numbered};
+ghost use Rattle.spec_registry.specs.Shared.{IsSomeRefusal};
 
 /// The law that a failed allocation is never reported as a kind of bad schema, by no reply of a registry, and by no
 /// refusal of one that threads share.

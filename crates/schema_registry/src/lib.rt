@@ -16,7 +16,6 @@ mod known_version;
 mod laws;
 mod level;
 mod limits;
-mod refusal;
 mod registry;
 mod reply;
 mod requirement;
@@ -33,12 +32,12 @@ pub use laws::{
     an_id_names_one_schema, kept_commands_are_accepted_again, kept_commands_make_the_registry,
     memory_is_no_bad_schema,
 };
-pub use level::Level;
+pub use level::{Level, parse_level};
 pub use limits::{
     LONGEST_SUBJECT, MOST_LEVELS, MOST_SCHEMAS, MOST_SUBJECTS, MOST_VERSION, limits_are_these,
 };
-pub use refusal::Refusal;
 pub use registry::{Progress, Registry, ReplayFault, UnreplayedLine, Unwatched};
 pub use reply::Reply;
 pub use shared::{Receipt, Registered, SharedRegistry};
+pub use spec_registry::Refusal;
 pub use subject::{is_subject, is_version};

@@ -1,11 +1,12 @@
 //! A registry: schemas under ids, versions of subjects, levels.
 
 ghost use Rattle.std.specs.Prelude.{◌≡◌, ℕ, List, [], ◌∷◌, ◌++◌, length, map, OnOk, OnErr, IfErr, option_map};
-ghost use Rattle.schema_registry.specs.Accepting.{registry_after};
+ghost use Rattle.spec_registry.specs.Accepting.{registry_after};
 ghost use Rattle.schema_registry.specs.Answer.{Gives};
-ghost use Rattle.schema_registry.specs.Answers.{AreAccepted, Grows, answer_to};
-ghost use Rattle.schema_registry.specs.Command.{IsQuestion, command_of};
-ghost use Rattle.schema_registry.specs.Lists.{numbered, versions_of};
+ghost use Rattle.spec_registry.specs.Answers.{AreAccepted, Grows, answer_to};
+ghost use Rattle.spec_registry.specs.Command.{IsQuestion};
+ghost use Rattle.schema_registry.specs.Command.{command_of};
+ghost use Rattle.spec_registry.specs.Lists.{versions_of, numbered};
 ghost use Rattle.schema_registry.specs.Tables.{numbers_from};
 
 pub(crate) mod asking;
@@ -17,13 +18,13 @@ mod requiring;
 use crate::command::Command;
 use crate::history::History;
 use crate::level::Level;
-use crate::refusal::Refusal;
 use crate::reply::Reply;
 use crate::schemas::SchemaTable;
 use avro_schema::Schema;
 pub(crate) use replaying::replayed;
 pub use replaying::{Progress, ReplayFault, UnreplayedLine, Unwatched};
 use schema_registry_maps::Versions;
+use spec_registry::Refusal;
 use std::alloc::Global;
 use std::collections::BTreeMap;
 use std::marker::Model;
@@ -42,9 +43,9 @@ pub struct Registry {
 
 impl Model for Registry {
     ghost use Rattle.std.specs.Prelude.{List};
-    ghost use Rattle.schema_registry.specs.Command.{Command};
-    ghost use Rattle.schema_registry.specs.Accepting.{registry_after};
-    ghost use Rattle.schema_registry.specs.Answers.{AreAccepted};
+    ghost use Rattle.spec_registry.specs.Command.{Command};
+    ghost use Rattle.spec_registry.specs.Accepting.{registry_after};
+    ghost use Rattle.spec_registry.specs.Answers.{AreAccepted};
     ghost use Rattle.schema_registry.specs.Tables.{Holds};
 
     ghost Value = { List Command };

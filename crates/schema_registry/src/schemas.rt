@@ -4,10 +4,10 @@ ghost use Rattle.std.specs.Prelude.{◌≡◌, ◌≤◌, ◌<◌, ◌+◌, ◌^
 ghost use Rattle.std.specs.BTreeMap.{get_by_text};
 ghost use Rattle.std.specs.Vec.{vec_capacity, vec_len};
 ghost use Rattle.schema_registry_maps.specs.Maps.{AreSame, Puts, ids_in, number_of};
-ghost use Rattle.schema_registry.specs.declared.limits.TheConstants.{MOST_SCHEMAS};
-ghost use Rattle.schema_registry.specs.Accepting.{id_for, with_schema};
-ghost use Rattle.schema_registry.specs.Answers.{has_no_id};
-ghost use Rattle.schema_registry.specs.Lists.{id_of, numbered};
+ghost use Rattle.spec_registry.specs.declared.limits.TheConstants.{MOST_SCHEMAS};
+ghost use Rattle.spec_registry.specs.Accepting.{id_for, with_schema};
+ghost use Rattle.spec_registry.specs.Answers.{has_no_id};
+ghost use Rattle.spec_registry.specs.Lists.{id_of, numbered};
 
 use crate::limits::MOST_SCHEMAS;
 use avro_schema::Schema;
@@ -28,7 +28,7 @@ impl Model for SchemaTable {
     ghost use Rattle.std.specs.Prelude.{List};
     ghost use Rattle.std.specs.Coded.{codes};
     ghost use Rattle.avro_types.specs.DatumCode.{datum_coded};
-    ghost use Rattle.avro_schema.specs.Schema.{Declaration};
+    ghost use Rattle.spec_schema.specs.Schema.{Declaration};
     ghost use Rattle.schema_registry.specs.Tables.{AreIdsOf};
 
     ghost Value = { List Declaration };

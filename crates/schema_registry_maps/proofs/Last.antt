@@ -1,6 +1,6 @@
 -- The last of some ids.
 use Rattle.std.proofs.Common.{◌≡◌, ◌<◌, ℕ, suc, ◌-◌, List, [], ◌∷◌, length, take, drop, refl, arith}
-use Rattle.schema_registry_maps.specs.Comparing.{last_of}
+use Rattle.spec_registry.specs.Comparing.{last_of}
 
 last-drop : {A : Type 0} (x : A) (xs : List A) → drop (length xs) (x ∷ xs) ≡ last_of (x ∷ xs)
 last-drop x [] = refl

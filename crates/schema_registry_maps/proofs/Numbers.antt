@@ -10,10 +10,7 @@ use Rattle.std.proofs.lemmas.Map.Keys.{IsDistinct-push}
 use Rattle.std.proofs.lemmas.Map.Steps.{length-le_from_distinct_below}
 use Rattle.schema_registry_maps.specs.declared.limits.TheConstants.{MOST_ID}
 use Rattle.schema_registry_maps.specs.Maps.{AreNumbersOf, number_of}
-
-pub all-push : {A : Type 0} (P : A → Type 0) (xs : List A) (x : A) → AllByRecursion P xs → P x → AllByRecursion P (xs ++ x ∷ [])
-all-push P [] x all p = (p, tt)
-all-push P (y ∷ xs) x all p = (all.0, all-push P xs x all.1 p)
+use Rattle.schema_registry_maps.specs.Laws.Plain.{all-push}
 
 -- what all have that one of them has
 pub all-any : (P : ℕ → Type 0) (xs : List ℕ) → AllByRecursion P xs → (q : ℕ) → list_any (eqb q) xs ≡ true → P q

@@ -1,7 +1,7 @@
 //! Which versions of a subject a new one is compared with, and which of two reads what the other writes.
 
 ghost use Rattle.std.specs.Prelude.{◌≡◌, true, false, MatchOption};
-ghost use Rattle.schema_registry_maps.specs.Comparing.{compared, last_of};
+ghost use Rattle.spec_registry.specs.Comparing.{compared, last_of};
 
 /// Returns all of some ids, or the last of them alone.
 pub fn compared(is_transitive: bool, ids: &[u32]) -> &[u32]

@@ -2,7 +2,8 @@
 
 ghost use Rattle.std.specs.Prelude.{◌≡◌, ◌≤◌, ◌<◌, ◌^◌, [], ◌∷◌, ◌++◌, length, None, IfOk, OnOk, OnErr};
 ghost use Rattle.schema_registry_maps.specs.declared.limits.TheConstants.{MOST_ID};
-ghost use Rattle.schema_registry_maps.specs.Maps.{number_of, numbered};
+ghost use Rattle.schema_registry_maps.specs.Maps.{number_of};
+ghost use Rattle.spec_registry.specs.Lists.{numbered};
 
 use std::alloc::{AllocError, Global};
 use std::collections::BTreeMap;

@@ -1,8 +1,8 @@
 -- Where the fault of a line is.
 use Rattle.std.proofs.Common.{◌≡◌, ℕ, true, false, List, Err, refl, subst}
 use Rattle.std.specs.Str.{IsUtf8}
-use Rattle.avro_schema_names.specs.declared.error.SchemaError.{SchemaError}
-use Rattle.avro_schema_names.specs.declared.error.SchemaError.TheVariants.{NotJson}
+use Rattle.spec_schema.specs.declared.schema_error.SchemaError.{SchemaError}
+use Rattle.spec_schema.specs.declared.schema_error.SchemaError.TheVariants.{NotJson}
 use Rattle.schema_report.specs.Faults.{HasPlace, HasPlaceOf, has_place}
 use Rattle.schema_report.specs.Reading.{schema_of_line}
 use Rattle.schema_report.proofs.SchemaLines.{no_text}

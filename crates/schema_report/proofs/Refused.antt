@@ -1,7 +1,7 @@
 -- The reports of lines that are no schemas.
 use Rattle.std.proofs.Common.{◌≡◌, ◌≢◌, ℕ, List, string_bytes, Ok, Err, sym, subst}
 use Rattle.spec_avro.specs.Node.{Node}
-use Rattle.avro_schema_names.specs.declared.error.SchemaError.{SchemaError}
+use Rattle.spec_schema.specs.declared.schema_error.SchemaError.{SchemaError}
 use Rattle.schema_report.specs.Reading.{IsBadLine, IsOfText, schema_of_line}
 use Rattle.schema_report.specs.Reports.{AnswersCheck, first_refused, second_refused, AnswersNodes, refused, IsRefused}
 use Rattle.schema_report.specs.Faults.{IsBadSchema}

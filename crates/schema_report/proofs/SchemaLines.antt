@@ -2,9 +2,10 @@
 use Rattle.std.proofs.Common.{◌≡◌, ◌≢◌, ℕ, Bool, true, false, List, Result, Ok, Err, IfOk, IfErr, refl, ◌∙◌, sym, ap}
 use Rattle.std.specs.Str.{IsUtf8, is_utf8}
 use Rattle.std.proofs.lemmas.Str.{IsUtf8-from_is_utf8, is_utf8-from_IsUtf8}
-use Rattle.avro_schema.specs.Schema.{Declaration, Parses, schema_of}
-use Rattle.avro_schema_names.specs.declared.error.SchemaError.{SchemaError}
-use Rattle.avro_schema_names.specs.declared.error.SchemaError.TheVariants.{NoMemory, NotJson}
+use Rattle.spec_schema.specs.Schema.{Declaration, schema_of}
+use Rattle.avro_schema.specs.Schema.{Parses}
+use Rattle.spec_schema.specs.declared.schema_error.SchemaError.{SchemaError}
+use Rattle.spec_schema.specs.declared.schema_error.SchemaError.TheVariants.{NoMemory, NotJson}
 use Rattle.schema_report.specs.Reading.{schema_of_line}
 
 schema_of_text : (line : List ℕ) → IsUtf8 line → schema_of_line line ≡ schema_of line

@@ -5,9 +5,9 @@ use Rattle.json.specs.Print.{escape}
 use Rattle.serde_json.specs.Data.{Data}
 use Rattle.serde_json.specs.Read.{read}
 use Rattle.spec_avro.specs.declared.limits.TheConstants.{MOST_TEXT}
-use Rattle.avro_schema_names.specs.SchemaError.{name_of}
-use Rattle.avro_schema_names.specs.declared.error.SchemaError.{SchemaError}
-use Rattle.avro_schema_names.specs.declared.error.SchemaError.TheVariants.{NotJson, NoMemory}
+use Rattle.spec_schema.specs.SchemaError.{name_of}
+use Rattle.spec_schema.specs.declared.schema_error.SchemaError.{SchemaError}
+use Rattle.spec_schema.specs.declared.schema_error.SchemaError.TheVariants.{NotJson, NoMemory}
 use Rattle.avro_schema_faults.specs.Places.{IsFaultOf}
 use Rattle.avro_schema_faults.specs.Words.{word_at}
 use Rattle.avro_schema_faults.specs.declared.faults.Fault.{Fault}

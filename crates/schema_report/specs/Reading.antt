@@ -2,9 +2,9 @@
 use Rattle.std.specs.Prelude.{◌≡◌, ℕ, List, if◌then◌else◌, Result, Err}
 use Rattle.std.specs.Str.{is_utf8}
 use Rattle.spec_avro.specs.Node.{Node}
-use Rattle.avro_schema.specs.Schema.{schema_of}
-use Rattle.avro_schema_names.specs.declared.error.SchemaError.{SchemaError}
-use Rattle.avro_schema_names.specs.declared.error.SchemaError.TheVariants.{NotJson}
+use Rattle.spec_schema.specs.Schema.{schema_of}
+use Rattle.spec_schema.specs.declared.schema_error.SchemaError.{SchemaError}
+use Rattle.spec_schema.specs.declared.schema_error.SchemaError.TheVariants.{NotJson}
 use Rattle.schema_report.specs.declared.refusal.Refusal.{Refusal}
 use Rattle.schema_report.specs.declared.refusal.Refusal.TheVariants.{NoMemory, BadSchema}
 

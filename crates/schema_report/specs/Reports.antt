@@ -4,7 +4,7 @@ use Rattle.std.specs.declared.alloc.Global.{Global}
 use Rattle.serde_json.specs.Data.{Data}
 use Rattle.serde_json.specs.Read.{read}
 use Rattle.spec_avro.specs.Node.{Node}
-use Rattle.avro_schema_names.specs.declared.error.SchemaError.{SchemaError}
+use Rattle.spec_schema.specs.declared.schema_error.SchemaError.{SchemaError}
 use Rattle.avro_schema_paths.specs.Adds.{ArePaths}
 use Rattle.avro_schema_paths.specs.declared.step.Step.{Step}
 use Rattle.schema_report.specs.Checking.{IsChecked}

@@ -179,7 +179,8 @@ fn push_bad(
     requires reader { bad.now.reader_node < length reader.now.nodes.now }
     requires writer_paths { length writer.now.paths.now ≡ length writer.now.nodes.now }
     requires reader_paths { length reader.now.paths.now ≡ length reader.now.nodes.now }
-    ensures { OnOk result (string_bytes output.new ≡ string_bytes output.old ++ bad_line writer.now reader.now bad.now) }
+    ensures { OnOk result (string_bytes output.new ≡ string_bytes output.old
+        ++ bad_line writer.now reader.now bad.now) }
 {
     let pair = Pair {
         writer: writer.nodes,

@@ -3,9 +3,9 @@
 ghost use Rattle.std.specs.Prelude.{◌≡◌, ◌≢◌, length, Err, Ok, Some, IfErr, IfOk};
 ghost use Rattle.serde_json.specs.Read.{read};
 ghost use Rattle.serde_json.specs.View.{view};
-ghost use Rattle.avro_schema.specs.Schema.{schema_of};
+ghost use Rattle.spec_schema.specs.Schema.{schema_of};
 ghost use Rattle.avro_schema_paths.specs.Adds.{ArePaths};
-ghost use Rattle.avro_schema_names.specs.declared.error.SchemaError.TheVariants.{NoMemory};
+ghost use Rattle.spec_schema.specs.declared.schema_error.SchemaError.TheVariants.{NoMemory};
 ghost use Rattle.schema_report.specs.Reading.{IsBadLine, schema_of_line};
 
 use crate::refusal::Refusal;

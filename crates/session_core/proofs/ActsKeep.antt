@@ -2,23 +2,24 @@
 use Rattle.std.proofs.Common.{◌≡◌, ℕ, zero, suc, [], ◌∷◌, Bool, true, false, List, Option, Some, None, refl, sym, ap, ◌∙◌, subst, inl, inr}
 use Rattle.std.specs.Prelude.{if◌then◌else◌, is_some, slice_get, slice_set, Result, Ok, Err}
 use Rattle.std.specs.List.{AllByRecursion}
-use Rattle.session_core.specs.declared.session_refusal.BreakRefusal.TheVariants as breaks
-use Rattle.session_core.specs.declared.session_refusal.PieceRefusal.TheVariants as pieces
-use Rattle.session_core.specs.Changes.{Maybe, Surely, break_refusal, clear_refusal, cleared_at, finished, piece_refusal, refused, set_at, with_piece}
+use Rattle.spec_sessions.specs.declared.session_refusal.BreakRefusal.TheVariants as breaks
+use Rattle.spec_sessions.specs.declared.session_refusal.PieceRefusal.TheVariants as pieces
+use Rattle.spec_sessions.specs.Changes.{Maybe, Surely, break_refusal, clear_refusal, cleared_at, finished, piece_refusal, refused, set_at, with_piece}
 use Rattle.session_core.specs.SessionEnding.{SessionLeadsToOutcome}
-use Rattle.session_core.specs.Rows.{TakesRows, go_rows, slice_rows, walk_rows}
-use Rattle.session_core.specs.Session.{Session, end_in}
-use Rattle.schema_registry.specs.Command.{Command}
-use Rattle.session_core.specs.declared.reply.EventReply.{EventReply}
-use Rattle.session_core.specs.declared.reply.EventReply.TheVariants.{Done, Refused, Rows}
-use Rattle.session_core.specs.declared.refusal.EventRefusal.TheVariants.{NotHeld}
-use Rattle.session_core.specs.Acts.{Acts, Slices, Takes, with_session}
-use Rattle.session_core.specs.Event.{Act, Break, Clear, Finish, Go, Piece, Refuse, Slice, Steal, Walk}
-use Rattle.avro_schema.specs.Schema.{Declaration}
+use Rattle.spec_sessions.specs.Rows.{TakesRows, go_rows, slice_rows, walk_rows}
+use Rattle.spec_sessions.specs.Session.{Session, end_in}
+use Rattle.spec_registry.specs.Command.{Command}
+use Rattle.spec_sessions.specs.declared.reply.EventReply.{EventReply}
+use Rattle.spec_sessions.specs.declared.reply.EventReply.TheVariants.{Done, Refused, Rows}
+use Rattle.spec_sessions.specs.declared.refusal.EventRefusal.TheVariants.{NotHeld}
+use Rattle.spec_sessions.specs.Acts.{Acts, Slices, Takes, with_session}
+use Rattle.spec_sessions.specs.Event.{Act, Break, Clear, Finish, Go, Piece, Refuse, Slice, Steal, Walk}
+use Rattle.spec_schema.specs.Schema.{Declaration}
 use Rattle.spec_avro.specs.Node.{Node}
 use Rattle.session_core.specs.Ending.{EndsWithOutcome}
 use Rattle.session_core.specs.Kept.{IsKept, IsSession}
-use Rattle.session_core.specs.World.{Held, IsCodeOf, World, schema_after}
+use Rattle.spec_sessions.specs.World.{Held, World, schema_after}
+use Rattle.session_core.specs.World.{IsCodeOf}
 use Rattle.session_core.proofs.Worlds.{code-of-found, ends-with-outcome}
 
 -- of the same pair, with the same program

@@ -5,11 +5,11 @@ use Rattle.std.specs.List.{AllByRecursion}
 use Rattle.std.proofs.lemmas.Bool.{or_from, or_parts}
 use Rattle.std.proofs.lemmas.List.{append_assoc}
 use Rattle.std.proofs.lemmas.List.Folds.{list_any-append}
-use Rattle.session_core.specs.declared.limits.TheConstants.{MOST_BREAKS}
-use Rattle.session_core.specs.Changes.{break_refusal, set_at}
-use Rattle.isa.specs.State.{State}
+use Rattle.spec_sessions.specs.declared.limits.TheConstants.{MOST_BREAKS}
+use Rattle.spec_sessions.specs.Changes.{break_refusal, set_at}
+use Rattle.spec_machine.specs.State.{State}
 use Rattle.session_core.specs.SessionKept.{AreDistinct, AreSet, IsSession, with_breaks}
-use Rattle.session_core.specs.Session.{Session, has_break, with_break, without_break}
+use Rattle.spec_sessions.specs.Session.{Session, has_break, with_break, without_break}
 
 -- ---- one more
 

@@ -2,25 +2,25 @@
 use Rattle.std.proofs.Common.{◌≡◌, ◌<◌, ℕ, Bool, true, false, List, [], ◌∷◌, ◌++◌, Option, Some, None, refl, sym, ap, ◌∙◌, subst, inl, inr, slice_get, slice_set, arith}
 use Rattle.std.specs.Prelude.{Result, Ok, Err}
 use Rattle.std.proofs.Math.Nat.{lt_irrefl}
-use Rattle.isa.specs.Program.{Program}
-use Rattle.avro_schema.specs.Schema.{Declaration}
-use Rattle.program_definition.specs.Code.{code_of}
-use Rattle.schema_registry.specs.Command.{Command, RegisterCommand, SetLevelCommand}
-use Rattle.session_core.specs.declared.session_refusal.BreakRefusal.TheVariants as breaks
-use Rattle.session_core.specs.declared.session_refusal.PieceRefusal.TheVariants as pieces
-use Rattle.session_core.specs.Changes.{Maybe, Surely, break_refusal, clear_refusal, cleared_at, piece_refusal, set_at, with_piece}
-use Rattle.session_core.specs.Rows.{TakesRows, go_rows, slice_rows, walk_rows}
-use Rattle.session_core.specs.Session.{Session}
-use Rattle.session_core.specs.declared.publish_error.PublishError.TheVariants.{Clash, NoMemory, ProgramTooLarge}
-use Rattle.session_core.specs.declared.refusal.EventRefusal.{EventRefusal}
-use Rattle.session_core.specs.declared.refusal.EventRefusal.TheVariants as refusals
-use Rattle.session_core.specs.declared.reply.EventReply.{EventReply}
-use Rattle.session_core.specs.declared.reply.EventReply.TheVariants.{Done, Id, Refused, Rows, SessionIs}
-use Rattle.session_core.specs.Acts.{Acts, Slices, Takes, of_break, of_clear, of_piece, reply_by, with_session}
-use Rattle.session_core.specs.Event.{Act, Begin, Break, Clear, Event, Finish, Go, On, Piece, Publish, Refuse, Register, SetLevel, Slice, Steal, Walk}
-use Rattle.session_core.specs.Happening.{ActsOn, Begins, Happened, Happens, Publishes, PublishesNew, PublishesPair, Refuses, Registers, Step}
-use Rattle.session_core.specs.Isolation.{ActStep, ActsLeadToOne, EventsLeadToOne, Lived}
-use Rattle.session_core.specs.World.{Held, Publication, World, program_at, schema_at}
+use Rattle.spec_machine.specs.Program.{Program}
+use Rattle.spec_schema.specs.Schema.{Declaration}
+use Rattle.spec_machine.specs.Code.{code_of}
+use Rattle.spec_registry.specs.Command.{Command, RegisterCommand, SetLevelCommand}
+use Rattle.spec_sessions.specs.declared.session_refusal.BreakRefusal.TheVariants as breaks
+use Rattle.spec_sessions.specs.declared.session_refusal.PieceRefusal.TheVariants as pieces
+use Rattle.spec_sessions.specs.Changes.{Maybe, Surely, break_refusal, clear_refusal, cleared_at, piece_refusal, set_at, with_piece}
+use Rattle.spec_sessions.specs.Rows.{TakesRows, go_rows, slice_rows, walk_rows}
+use Rattle.spec_sessions.specs.Session.{Session}
+use Rattle.spec_sessions.specs.declared.publish_error.PublishError.TheVariants.{Clash, NoMemory, ProgramTooLarge}
+use Rattle.spec_sessions.specs.declared.refusal.EventRefusal.{EventRefusal}
+use Rattle.spec_sessions.specs.declared.refusal.EventRefusal.TheVariants as refusals
+use Rattle.spec_sessions.specs.declared.reply.EventReply.{EventReply}
+use Rattle.spec_sessions.specs.declared.reply.EventReply.TheVariants.{Done, Id, Refused, Rows, SessionIs}
+use Rattle.spec_sessions.specs.Acts.{Acts, Slices, Takes, of_break, of_clear, of_piece, reply_by, with_session}
+use Rattle.spec_sessions.specs.Event.{Act, Begin, Break, Clear, Event, Finish, Go, On, Piece, Publish, Refuse, Register, SetLevel, Slice, Steal, Walk}
+use Rattle.spec_sessions.specs.Happening.{ActsOn, Begins, Happened, Happens, Publishes, PublishesNew, PublishesPair, Refuses, Registers, Step}
+use Rattle.spec_sessions.specs.Isolation.{ActStep, ActsLeadToOne, EventsLeadToOne, Lived}
+use Rattle.spec_sessions.specs.World.{Held, Publication, World, program_at, schema_at}
 
 -- ---- one act
 

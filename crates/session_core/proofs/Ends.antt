@@ -6,31 +6,25 @@ use Rattle.std.proofs.lemmas.Bool.{false≢true}
 use Rattle.std.proofs.lemmas.Option.{none-some, same_Some}
 use Rattle.spec_avro.specs.Node.{Node}
 use Rattle.spec_avro.specs.Options.{given}
-use Rattle.isa.specs.Program.{Program}
-use Rattle.isa.specs.Row.{row_of}
-use Rattle.isa.specs.State as state
-use Rattle.isa.specs.State.{State}
+use Rattle.spec_machine.specs.Program.{Program}
+use Rattle.spec_machine.specs.Row.{row_of}
+use Rattle.spec_machine.specs.State as state
+use Rattle.spec_machine.specs.State.{State}
 use Rattle.spec_avro.specs.declared.limits.TheConstants.{MOST_PAYLOAD}
-use Rattle.program_correctness.specs.Alone.{EndsAreLast, RowsAreCounted, RunsGoOn, rows_from, run_alone}
-use Rattle.program_correctness.specs.Simulation.{EndsWithOutcome}
+use Rattle.spec_machine.specs.Alone.{EndsAreLast, RowsAreCounted, RunsGoOn, rows_from, run_alone}
+use Rattle.spec_machine.specs.Simulation.{EndsWithOutcome}
 use Rattle.machine.specs.Ending.{LeadsToOutcome}
-use Rattle.machine_stepper.specs.Slice.{IsWhy, stops_at}
+use Rattle.machine_stepper.specs.Slice.{IsWhy}
+use Rattle.spec_machine.specs.Breakpoints.{stops_at}
 use Rattle.session_core.specs.declared.slice.Stopped.{Stopped}
 use Rattle.session_core.specs.declared.slice.Stopped.TheVariants.{Ended, Spent, Broke, Waits}
 use Rattle.session_core.specs.SessionEnding.{EndsInOneSlice, EndsWithin}
-use Rattle.session_core.specs.Rows.{TakesRows}
-use Rattle.session_core.specs.Session.{OutOfMemory, Session, end_in, machine_end, session_end, state_of}
+use Rattle.spec_sessions.specs.Rows.{TakesRows}
+use Rattle.spec_sessions.specs.Session.{OutOfMemory, Session, end_in, machine_end, session_end, state_of}
 use Rattle.session_core.specs.Stopping.{IsStopped, IsStoppedAs, why_of}
+use Rattle.machine.specs.Laws.Plain.{and_false, none_stops}
 
 -- ---- runs
-
-and_false : (b : Bool) → b && false ≡ true → ⊥
-and_false true e = cc
-and_false false e = cc
-
--- no breakpoint stops where none is set
-none_stops : (s : State) → stops_at [] s ≡ true → ⊥
-none_stops s e = and_false (not (is_some s.content)) e
 
 module _ (P : Program) (input : List ℕ) (ended : Bool) where
   -- a state without an end is not the one that has it

@@ -3,10 +3,12 @@ use Rattle.std.proofs.Common.{◌≡◌, ◌<◌, ℕ, suc, ◌+◌, List, [], �
 use Rattle.std.proofs.Math.Seq.{take-suc}
 use Rattle.std.proofs.lemmas.List.{length-map, length-take-le, map-append}
 use Rattle.session_core.specs.declared.event.Event as rust
-use Rattle.session_core.specs.declared.reply.EventReply.{EventReply}
-use Rattle.session_core.specs.Event.{Event, event_of}
-use Rattle.session_core.specs.Happening.{Happened, Happens, Step, steps_of}
-use Rattle.session_core.specs.World.{World}
+use Rattle.spec_sessions.specs.declared.reply.EventReply.{EventReply}
+use Rattle.spec_sessions.specs.Event.{Event}
+use Rattle.session_core.specs.Event.{event_of}
+use Rattle.spec_sessions.specs.Happening.{Happened, Happens, Step}
+use Rattle.session_core.specs.Happening.{steps_of}
+use Rattle.spec_sessions.specs.World.{World}
 
 steps-and-one : (es : List Event) (rs : List EventReply) (e : Event) (r : EventReply) → length rs ≡ length es → steps_of (es ++ e ∷ []) (rs ++ r ∷ []) ≡ steps_of es rs ++ record { event = e; reply = r } ∷ []
 steps-and-one [] [] e r same = refl

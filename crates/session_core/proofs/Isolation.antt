@@ -1,24 +1,25 @@
 -- A session is what its own accepted acts make of it.
 use Rattle.std.proofs.Common.{◌≡◌, ℕ, zero, suc, Bool, true, false, List, [], ◌∷◌, ◌++◌, length, Option, Some, None, refl, sym, ap, ◌∙◌, subst, inl, inr, slice_get, slice_set, arith}
 use Rattle.std.specs.Prelude.{◌==◌, if◌then◌else◌, Result, Ok, Err}
-use Rattle.isa.specs.Program.{Program}
-use Rattle.avro_schema.specs.Schema.{Declaration}
-use Rattle.schema_registry.specs.Command.{Command, RegisterCommand, SetLevelCommand}
-use Rattle.schema_registry.specs.Reply as replies
-use Rattle.session_core.specs.declared.session_refusal.BreakRefusal.TheVariants as breaks
-use Rattle.session_core.specs.declared.session_refusal.PieceRefusal.TheVariants as pieces
-use Rattle.session_core.specs.Changes.{Maybe, Surely, break_refusal, clear_refusal, cleared_at, piece_refusal, set_at, with_piece}
-use Rattle.session_core.specs.Session.{Session, begun}
-use Rattle.session_core.specs.declared.publish_error.PublishError.TheVariants.{Clash, NoMemory, ProgramTooLarge}
-use Rattle.session_core.specs.declared.refusal.EventRefusal.{EventRefusal}
-use Rattle.session_core.specs.declared.refusal.EventRefusal.TheVariants as refusals
-use Rattle.session_core.specs.declared.reply.EventReply.{EventReply}
-use Rattle.session_core.specs.declared.reply.EventReply.TheVariants.{Done, Id, Refused, Rows, SessionIs}
-use Rattle.session_core.specs.Acts.{Acts, Slices, of_break, of_clear, of_piece, reply_by, with_session}
-use Rattle.session_core.specs.Event.{Act, Begin, Break, Clear, Event, Finish, Go, On, Piece, Publish, Refuse, Register, SetLevel, Slice, Steal, Walk}
-use Rattle.session_core.specs.Happening.{Accepts, ActsOn, Begins, Happened, Happens, Publishes, PublishesNew, PublishesPair, Refuses, Registers, Step}
-use Rattle.session_core.specs.Isolation.{ActStep, HasBegun, IsItsOwn, Lived, SessionsAreTheirOwn, accepted, begun_by, own_act, own_acts}
-use Rattle.session_core.specs.World.{Held, World, no_world, program_at, schema_at}
+use Rattle.spec_machine.specs.Program.{Program}
+use Rattle.spec_schema.specs.Schema.{Declaration}
+use Rattle.spec_registry.specs.Command.{Command, RegisterCommand, SetLevelCommand}
+use Rattle.spec_registry.specs.Reply as replies
+use Rattle.schema_registry.specs.Reply as replies_here
+use Rattle.spec_sessions.specs.declared.session_refusal.BreakRefusal.TheVariants as breaks
+use Rattle.spec_sessions.specs.declared.session_refusal.PieceRefusal.TheVariants as pieces
+use Rattle.spec_sessions.specs.Changes.{Maybe, Surely, break_refusal, clear_refusal, cleared_at, piece_refusal, set_at, with_piece}
+use Rattle.spec_sessions.specs.Session.{Session, begun}
+use Rattle.spec_sessions.specs.declared.publish_error.PublishError.TheVariants.{Clash, NoMemory, ProgramTooLarge}
+use Rattle.spec_sessions.specs.declared.refusal.EventRefusal.{EventRefusal}
+use Rattle.spec_sessions.specs.declared.refusal.EventRefusal.TheVariants as refusals
+use Rattle.spec_sessions.specs.declared.reply.EventReply.{EventReply}
+use Rattle.spec_sessions.specs.declared.reply.EventReply.TheVariants.{Done, Id, Refused, Rows, SessionIs}
+use Rattle.spec_sessions.specs.Acts.{Acts, Slices, of_break, of_clear, of_piece, reply_by, with_session}
+use Rattle.spec_sessions.specs.Event.{Act, Begin, Break, Clear, Event, Finish, Go, On, Piece, Publish, Refuse, Register, SetLevel, Slice, Steal, Walk}
+use Rattle.spec_sessions.specs.Happening.{Accepts, ActsOn, Begins, Happened, Happens, Publishes, PublishesNew, PublishesPair, Refuses, Registers, Step}
+use Rattle.spec_sessions.specs.Isolation.{ActStep, HasBegun, IsItsOwn, Lived, SessionsAreTheirOwn, accepted, begun_by, own_act, own_acts}
+use Rattle.spec_sessions.specs.World.{Held, World, no_world, program_at, schema_at}
 use Rattle.session_core.proofs.ActsKeep.{SamePair, acts-same}
 
 -- ---- what is refused changes nothing

@@ -3,22 +3,22 @@ use Rattle.std.proofs.Common.{◌≡◌, ◌≤◌, ◌<◌, ◌+◌, ◌-◌, �
 use Rattle.std.specs.Prelude.{◌&&◌, if◌then◌else◌, is_some, nat_lt, not, option_map}
 use Rattle.std.specs.Option.{option_and_then, option_map_or}
 use Rattle.spec_avro.specs.Options.{given}
-use Rattle.isa.specs.Program.{Program}
-use Rattle.isa.specs.Row.{row_of}
-use Rattle.isa.specs.State.{State, start}
+use Rattle.spec_machine.specs.Program.{Program}
+use Rattle.spec_machine.specs.Row.{row_of}
+use Rattle.spec_machine.specs.State.{State, start}
 use Rattle.machine.specs.Laws.Rows.{one_row}
 use Rattle.spec_avro.specs.declared.limits.TheConstants.{MOST_PAYLOAD}
-use Rattle.program_correctness.specs.Alone.{RowsAreCounted, RunsGoOn, rows_from, run_alone}
-use Rattle.session_core.specs.Changes.{refused, with_piece}
+use Rattle.spec_machine.specs.Alone.{RowsAreCounted, RunsGoOn, rows_from, run_alone}
+use Rattle.spec_sessions.specs.Changes.{refused, with_piece}
 use Rattle.session_core.specs.SessionKept.{AreSet, IsMade, IsSession, fed, finished_if, remade, walked, with_breaks}
-use Rattle.session_core.specs.Rows.{slice_from, walk_rows}
-use Rattle.session_core.specs.Session.{Session, begun, end_in, session_end}
+use Rattle.spec_sessions.specs.Rows.{slice_from, walk_rows}
+use Rattle.spec_sessions.specs.Session.{Session, begun, end_in, session_end}
 use Rattle.session_core.proofs.Breaks.{all_set}
 use Rattle.session_core.proofs.Slices.{not_counted_out, one_on}
 
 -- ---- as many rows as lead to a state are taken
 
-no_break : (x : Bool) → (x && false) ≡ false
+pub no_break : (x : Bool) → (x && false) ≡ false
 no_break true = refl
 no_break false = refl
 

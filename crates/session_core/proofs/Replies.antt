@@ -2,26 +2,29 @@
 use Rattle.std.proofs.Common.{◌≡◌, ◌<◌, refl, length, ℕ, Bool, true, false, List, [], ◌∷◌, ◌++◌, Option, Some, None, inl, inr, ap, subst, sym, ◌∙◌}
 use Rattle.std.specs.Prelude.{Result, Ok, Err, IfErr, IsSome, OnOk, OnErr, if◌then◌else◌}
 use Rattle.spec_avro.specs.declared.limits.TheConstants.{MOST_TEXT}
-use Rattle.avro_schema.specs.Schema.{Declaration}
+use Rattle.spec_schema.specs.Schema.{Declaration}
 use Rattle.avro_schema.proofs.Declared.{too-large}
-use Rattle.avro_schema_names.specs.declared.error.SchemaError.TheVariants.{TooLarge}
-use Rattle.avro_schema_names.specs.declared.error.SchemaError.{SchemaError}
-use Rattle.schema_registry.specs.declared.level.Level.{Level}
-use Rattle.schema_registry.specs.declared.refusal.Refusal.{Refusal}
-use Rattle.schema_registry.specs.declared.refusal.Refusal.TheVariants.{BadSchema, Full}
-use Rattle.schema_registry.specs.declared.refusal.Refusal.TheVariants as refusals
-use Rattle.schema_registry.specs.Accepting.{declaration_of, declared_as, id_for, registry_after}
-use Rattle.schema_registry.specs.Answer.{Answer, Gives, IsAnswer, IsReply, Told, is_subject_or_none, where_schema, where_true}
-use Rattle.schema_registry.specs.Answers.{Grows, answer_to, has_no_room, is_full, register_answer, registration, set_level_answer}
-use Rattle.schema_registry.specs.Command.{Command, RegisterCommand, SetLevelCommand}
-use Rattle.schema_registry.specs.Lists.{Entry, Lists, versions_of, with_text, subjects_with_level}
-use Rattle.schema_registry.specs.Reply.{IdReply, LevelReply, Reply, reply_of}
+use Rattle.spec_schema.specs.declared.schema_error.SchemaError.TheVariants.{TooLarge}
+use Rattle.spec_schema.specs.declared.schema_error.SchemaError.{SchemaError}
+use Rattle.spec_registry.specs.declared.level.Level.{Level}
+use Rattle.spec_registry.specs.declared.refusal.Refusal.{Refusal}
+use Rattle.spec_registry.specs.declared.refusal.Refusal.TheVariants.{BadSchema, Full}
+use Rattle.spec_registry.specs.declared.refusal.Refusal.TheVariants as refusals
+use Rattle.spec_registry.specs.Accepting.{declaration_of, declared_as, id_for, registry_after}
+use Rattle.spec_registry.specs.Answer.{Answer, IsAnswer, IsReply, Told, is_subject_or_none, where_schema, where_true}
+use Rattle.schema_registry.specs.Answer.{Gives}
+use Rattle.spec_registry.specs.Answers.{Grows, answer_to, has_no_room, is_full, register_answer, registration, set_level_answer}
+use Rattle.spec_registry.specs.Command.{Command, RegisterCommand, SetLevelCommand}
+use Rattle.spec_registry.specs.Lists.{Entry, Lists, versions_of, with_text, subjects_with_level}
+use Rattle.spec_registry.specs.Reply.{IdReply, LevelReply, Reply}
+use Rattle.schema_registry.specs.Reply.{reply_of}
 use Rattle.schema_registry.specs.declared.reply.Reply as rust
-use Rattle.session_core.specs.Event.{SetLevel}
-use Rattle.session_core.specs.Happening.{Happens, level_reply}
-use Rattle.session_core.specs.World.{World}
-use Rattle.schema_registry.specs.Subject.{is_subject}
-use Rattle.schema_registry.specs.declared.limits.TheConstants.{MOST_LEVELS}
+use Rattle.spec_sessions.specs.Event.{SetLevel}
+use Rattle.spec_sessions.specs.Happening.{Happens}
+use Rattle.session_core.specs.Happening.{level_reply}
+use Rattle.spec_sessions.specs.World.{World}
+use Rattle.spec_registry.specs.Subject.{is_subject}
+use Rattle.spec_registry.specs.declared.limits.TheConstants.{MOST_LEVELS}
 
 -- ---- a registration
 

@@ -3,20 +3,17 @@ use Rattle.std.proofs.Common.{◌≡◌, ◌≢◌, ◌≤◌, ◌+◌, ◌-◌,
 use Rattle.std.proofs.Math.Nat.{lt_irrefl, suc-ne-zero}
 use Rattle.std.specs.Prelude.{◌⊎◌, ◌&&◌, if◌then◌else◌, is_some, not}
 use Rattle.std.specs.Option.{option_map_or}
-use Rattle.isa.specs.Program.{Program}
-use Rattle.isa.specs.Row.{row_of}
-use Rattle.isa.specs.State.{State}
+use Rattle.spec_machine.specs.Program.{Program}
+use Rattle.spec_machine.specs.Row.{row_of}
+use Rattle.spec_machine.specs.State.{State}
 use Rattle.machine.specs.Laws.Rows.{one_row}
-use Rattle.program_correctness.specs.Alone.{RunsGoOn}
-use Rattle.session_core.specs.Rows.{TakesRows, go_from, go_rows, is_counted_out, rows_of, slice_from, slice_rows, walk_rows}
-use Rattle.session_core.specs.Session.{Session, state_of}
+use Rattle.spec_machine.specs.Alone.{RunsGoOn}
+use Rattle.spec_sessions.specs.Rows.{TakesRows, go_from, go_rows, is_counted_out, rows_of, slice_from, slice_rows, walk_rows}
+use Rattle.spec_sessions.specs.Session.{Session, state_of}
 use Rattle.session_core.proofs.Slices.{none_counted_out, one_on, rest}
+use Rattle.session_core.proofs.Made.{no_break}
 
 -- ---- the first row
-
-no_break : (x : Bool) → (x && false) ≡ false
-no_break true = refl
-no_break false = refl
 
 module _ (P : Program) (input : List ℕ) (ended : Bool) (breaks : List ℕ) (k : ℕ) (s : State) where
   -- there is no row to take, or one, from which the others are taken

@@ -4,16 +4,17 @@ use Rattle.std.specs.Prelude.{◌||◌, ◌==◌, if◌then◌else◌, is_some}
 use Rattle.std.proofs.Math.Nat.{ne_of_lt}
 use Rattle.std.proofs.lemmas.Bool.{false≢true, ne_eqb}
 use Rattle.spec_avro.specs.Options.{given}
-use Rattle.isa.specs.Program.{Program}
-use Rattle.isa.specs.Row.{counted, row_of}
-use Rattle.isa.specs.State as state
-use Rattle.isa.specs.State.{State}
+use Rattle.spec_machine.specs.Program.{Program}
+use Rattle.spec_machine.specs.Row.{counted, row_of}
+use Rattle.spec_machine.specs.State as state
+use Rattle.spec_machine.specs.State.{State}
 use Rattle.machine.specs.Laws.Rows.{rows_run}
-use Rattle.program_correctness.specs.Alone.{RowsAreCounted, RunsGoOn, run_alone}
+use Rattle.spec_machine.specs.Alone.{RowsAreCounted, RunsGoOn, run_alone}
 use Rattle.machine_stepper.specs.declared.slice.Why.{Why}
 use Rattle.machine_stepper.specs.declared.slice.Why.TheVariants.{Broke, Ended, NoMemory, Spent, Waits}
-use Rattle.machine_stepper.specs.Slice.{IsWhy, Rows, stops_at}
-use Rattle.session_core.specs.Rows.{is_counted_out, slice_from}
+use Rattle.machine_stepper.specs.Slice.{IsWhy, Rows}
+use Rattle.spec_machine.specs.Breakpoints.{stops_at}
+use Rattle.spec_sessions.specs.Rows.{is_counted_out, slice_from}
 
 -- ---- one row more
 

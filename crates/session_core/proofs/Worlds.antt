@@ -3,17 +3,18 @@ use Rattle.std.proofs.Common.{◌≡◌, ℕ, zero, suc, Bool, true, false, List
 use Rattle.std.specs.Prelude.{◌==◌, ◌&&◌, Result, Ok, Err, if◌then◌else◌, is_some, find, slice_get, OnOk, OnErr, is_ok, option_map}
 use Rattle.std.specs.List.{AllByRecursion}
 use Rattle.std.proofs.lemmas.Bool.{eqb-true}
-use Rattle.avro_schema.specs.Schema.{Declaration}
-use Rattle.isa.specs.Program.{Program}
-use Rattle.avro_schema_names.specs.declared.error.SchemaError.{SchemaError}
-use Rattle.schema_registry.specs.Accepting.{declaration_of, registered, registry_after, taken, taken_all, with_version}
-use Rattle.schema_registry.specs.Command.{Command, RegisterCommand}
-use Rattle.schema_registry.specs.Lists.{Lists, id_of, no_lists, numbered, versions_of, with_text}
-use Rattle.program_definition.specs.Code.{code_of}
+use Rattle.spec_schema.specs.Schema.{Declaration}
+use Rattle.spec_machine.specs.Program.{Program}
+use Rattle.spec_schema.specs.declared.schema_error.SchemaError.{SchemaError}
+use Rattle.spec_registry.specs.Accepting.{declaration_of, registered, registry_after, taken, taken_all, with_version}
+use Rattle.spec_registry.specs.Command.{Command, RegisterCommand}
+use Rattle.spec_registry.specs.Lists.{Lists, id_of, no_lists, versions_of, with_text, numbered}
+use Rattle.spec_machine.specs.Code.{code_of}
 use Rattle.session_core.specs.SessionEnding.{SessionLeadsToOutcome}
 use Rattle.session_core.specs.Ending.{EndsWithOutcome}
 use Rattle.session_core.specs.Kept.{IsKept, IsPublication, IsSession}
-use Rattle.session_core.specs.World.{Held, IsCodeOf, Publication, World, is_of, program_at, schema_after}
+use Rattle.spec_sessions.specs.World.{Held, Publication, World, is_of, program_at, schema_after}
+use Rattle.session_core.specs.World.{IsCodeOf}
 
 -- ---- schemas stay
 

@@ -1,35 +1,11 @@
--- What happens to a world of sessions, wherever its texts lie in memory. All of this is this project's own.
-use Rattle.std.specs.Prelude.{ℕ, List, Option, option_map, string_bytes}
-use Rattle.schema_registry.specs.declared.level.Level.{Level}
+-- The event that a value of the code is. This project's own.
+use Rattle.std.specs.Prelude.{option_map, string_bytes}
+use Rattle.spec_registry.specs.declared.level.Level.{Level}
 use Rattle.session_core.specs.declared.event.Event as rust
 use Rattle.session_core.specs.declared.event.Event.TheVariants as events
 use Rattle.session_core.specs.declared.act.Act as asked
 use Rattle.session_core.specs.declared.act.Act.TheVariants as acts
-
--- what happens to one session
-pub data Act : Type 0 where
-  Piece : List ℕ → Act
-  Finish : Act
-  -- the worker that takes the rows, and how many at most
-  Slice : ℕ → ℕ → Act
-  -- the worker that holds it from now on
-  Steal : ℕ → Act
-  Break : ℕ → Act
-  Clear : ℕ → Act
-  Walk : ℕ → Act
-  Go : ℕ → Act
-  Refuse : Act
-
-pub data Event : Type 0 where
-  -- the subject, and a schema's text
-  Register : List ℕ → List ℕ → Event
-  -- no subject: the global level
-  SetLevel : Option (List ℕ) → Level → Event
-  -- the ids of a writer's and a reader's schema
-  Publish : ℕ → ℕ → Event
-  Begin : ℕ → ℕ → Event
-  -- the number of the session
-  On : ℕ → Act → Event
+use Rattle.spec_sessions.specs.Event.{Act, Piece, Finish, Slice, Steal, Break, Clear, Walk, Go, Refuse, Event, Register, SetLevel, Publish, Begin, On}
 
 -- what happens to a session, as a value of the program has it
 abbrev pub act_of : asked.Act → Act

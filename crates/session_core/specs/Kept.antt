@@ -1,8 +1,9 @@
 -- What holds of every world: each program is that of its pair. All of this is this project's own.
 use Rattle.std.specs.Prelude.{List}
 use Rattle.std.specs.List.{AllByRecursion}
-use Rattle.schema_registry.specs.Command.{Command}
-use Rattle.session_core.specs.World.{Held, IsCodeOf, Publication, World}
+use Rattle.spec_registry.specs.Command.{Command}
+use Rattle.spec_sessions.specs.World.{Held, Publication, World}
+use Rattle.session_core.specs.World.{IsCodeOf}
 
 abbrev pub IsPublication : List Command → Publication → Type 0
 IsPublication commands p = IsCodeOf commands p.writer p.reader p.program

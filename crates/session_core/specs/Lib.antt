@@ -1,16 +1,10 @@
 pub mod Event
 pub mod World
 pub mod Kept
-pub mod Acts
 pub mod Happening
 pub mod Publishing
-pub mod Names
-pub mod Isolation
 pub mod Ending
-pub mod Session
-pub mod Rows
 pub mod Stopping
 pub mod Changes
 pub mod SessionKept
-pub mod SessionNames
 pub mod SessionEnding

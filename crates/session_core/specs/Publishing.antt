@@ -2,10 +2,10 @@
 use Rattle.std.specs.Prelude.{◌≡◌, List, Some, None, Result, Ok, Err}
 use Rattle.spec_avro.specs.Node.{Node}
 use Rattle.std.proofs.Common.{Bor}
-use Rattle.isa.specs.Program.{Program}
-use Rattle.program_definition.specs.Code.{code_of}
-use Rattle.session_core.specs.declared.publish_error.PublishError.{PublishError}
-use Rattle.session_core.specs.declared.publish_error.PublishError.TheVariants.{Clash, NoMemory, ProgramTooLarge}
+use Rattle.spec_machine.specs.Program.{Program}
+use Rattle.spec_machine.specs.Code.{code_of}
+use Rattle.spec_sessions.specs.declared.publish_error.PublishError.{PublishError}
+use Rattle.spec_sessions.specs.declared.publish_error.PublishError.TheVariants.{Clash, NoMemory, ProgramTooLarge}
 
 -- the program of the pair, or that it passes a limit; else memory ran out, or the store holds something else in its
 -- place

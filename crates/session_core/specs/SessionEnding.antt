@@ -1,20 +1,11 @@
 -- How a session ends, and one of a pair of schemas. All of this is this project's own.
 use Rattle.std.specs.Prelude.{◌≡◌, ◌≤◌, ◌<◌, ◌+◌, ◌^◌, ℕ, [], List, Some, is_some, true}
 use Rattle.spec_avro.specs.Node.{Node}
-use Rattle.isa.specs.State.{State}
+use Rattle.spec_machine.specs.State.{State}
 use Rattle.machine.specs.Ending.{LeadsToOutcome}
-use Rattle.avro_bytes.specs.Outcome.{outcome_of}
-use Rattle.program_correctness.specs.Alone.{run_alone}
-use Rattle.program_correctness.specs.Simulation.{EndsWithOutcome}
-use Rattle.session_core.specs.declared.end.SessionEnd as rust
-use Rattle.session_core.specs.declared.end.SessionEnd.TheVariants as ends
-use Rattle.session_core.specs.Session.{OutOfMemory, Out, Session, SessionEnd, Trapped, end_in, state_of}
-
--- the end that a value of the program represents
-abbrev pub end_of : rust.SessionEnd → SessionEnd
-end_of (ends.Out outcome) = Out (outcome_of outcome)
-end_of (ends.Trap trap) = Trapped trap
-end_of ends.NoMemory = OutOfMemory
+use Rattle.spec_machine.specs.Alone.{run_alone}
+use Rattle.spec_machine.specs.Simulation.{EndsWithOutcome}
+use Rattle.spec_sessions.specs.Session.{Session, end_in, state_of}
 
 -- Its program run alone on the bytes that came has an end, within k rows more than were taken, all of which can be
 -- counted.

@@ -1,12 +1,12 @@
 -- What holds of every session, and what makes it. All of this is this project's own.
 use Rattle.std.specs.Prelude.{◌≡◌, ◌≤◌, ◌<◌, ℕ, ◌+◌, Bool, true, false, List, [], ◌∷◌, length, Some, None, if◌then◌else◌}
 use Rattle.std.specs.List.{AllByRecursion}
-use Rattle.isa.specs.State.{State}
+use Rattle.spec_machine.specs.State.{State}
 use Rattle.spec_avro.specs.declared.limits.TheConstants.{MOST_PAYLOAD}
-use Rattle.session_core.specs.declared.limits.TheConstants.{MOST_BREAKS}
-use Rattle.session_core.specs.Changes.{break_refusal, finished, piece_refusal, refused, set_at, with_piece}
-use Rattle.session_core.specs.Rows.{walk_rows}
-use Rattle.session_core.specs.Session.{Session, begun, has_break, state_of}
+use Rattle.spec_sessions.specs.declared.limits.TheConstants.{MOST_BREAKS}
+use Rattle.spec_sessions.specs.Changes.{break_refusal, finished, piece_refusal, refused, set_at, with_piece}
+use Rattle.spec_sessions.specs.Rows.{walk_rows}
+use Rattle.spec_sessions.specs.Session.{Session, begun, has_break, state_of}
 
 -- no address occurs twice
 abbrev pub AreDistinct : List ℕ → Type 0

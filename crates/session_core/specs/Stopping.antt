@@ -1,12 +1,12 @@
 -- Why no more rows were taken of a session. All of this is this project's own.
 use Rattle.std.specs.Prelude.{◌≡◌, ℕ, Bool, true, false, List, Some}
-use Rattle.isa.specs.State.{State}
+use Rattle.spec_machine.specs.State.{State}
 use Rattle.machine_stepper.specs.declared.slice.Why.{Why}
 use Rattle.machine_stepper.specs.declared.slice.Why.TheVariants as whys
 use Rattle.machine_stepper.specs.Slice.{IsWhy}
 use Rattle.session_core.specs.declared.slice.Stopped.{Stopped}
 use Rattle.session_core.specs.declared.slice.Stopped.TheVariants.{Ended, Spent, Broke, Waits}
-use Rattle.session_core.specs.Session.{Session, state_of}
+use Rattle.spec_sessions.specs.Session.{Session, state_of}
 
 -- want of memory ends a session
 abbrev pub stopped_of : Why → Stopped

@@ -1,13 +1,13 @@
 //! A session beside the worker that holds it.
 
 ghost use Rattle.std.specs.Prelude.{◌≡◌};
-ghost use Rattle.session_core.specs.Acts.{Acts};
-ghost use Rattle.session_core.specs.Event.{Break, Clear, Piece, Slice, act_of};
+ghost use Rattle.spec_sessions.specs.Acts.{Acts};
+ghost use Rattle.spec_sessions.specs.Event.{Break, Clear, Piece, Slice};
+ghost use Rattle.session_core.specs.Event.{act_of};
 
 use crate::Session;
 use crate::act::Act;
-use crate::refusal::EventRefusal;
-use crate::reply::EventReply;
+use spec_sessions::{EventRefusal, EventReply};
 use std::marker::Model;
 
 /// A session, the worker that holds it, and the ids of its pair.
@@ -20,7 +20,7 @@ pub(crate) struct Held<'p> {
 }
 
 impl<'p> Model for Held<'p> {
-    ghost use Rattle.session_core.specs.World.{Held};
+    ghost use Rattle.spec_sessions.specs.World.{Held};
 
     ghost Value = { Held };
 

@@ -1,6 +1,6 @@
 //! The laws of events. They do nothing when they run.
 
-ghost use Rattle.session_core.specs.Isolation.{ActsLeadToOne, EventsLeadToOne, SessionsAreTheirOwn};
+ghost use Rattle.spec_sessions.specs.Isolation.{ActsLeadToOne, EventsLeadToOne, SessionsAreTheirOwn};
 
 /// The law that a session is what its own accepted acts make of it since it began, with the same replies, whatever all
 /// other events are: registrations, levels, publications, and beginnings and acts of others.

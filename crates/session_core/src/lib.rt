@@ -5,17 +5,13 @@
 #![tactic(auto)]
 
 mod act;
-mod end;
 mod event;
 mod held;
 mod laws;
 mod limits;
 mod pair_row;
 mod programs;
-mod publish_error;
 mod published;
-mod refusal;
-mod reply;
 mod running;
 mod session;
 mod session_refusal;
@@ -24,16 +20,13 @@ mod taking;
 mod world;
 
 pub use act::Act;
-pub use end::SessionEnd;
 pub use event::Event;
 pub use laws::{replies_tell_what_happened, sessions_are_their_own};
 pub use limits::{MOST_BREAKS, MOST_ROOM, limits_are_these};
 pub use pair_row::PairRow;
 pub use programs::Programs;
-pub use publish_error::PublishError;
-pub use refusal::EventRefusal;
-pub use reply::EventReply;
 pub use session::Session;
 pub use session_refusal::{BreakRefusal, ClearRefusal, PieceRefusal, RefusedPiece};
 pub use slice::{Slice, Stopped};
+pub use spec_sessions::{EventRefusal, EventReply, PublishError, SessionEnd};
 pub use world::World;

@@ -2,12 +2,7 @@
 
 ghost use Rattle.std.specs.Prelude.{◌≡◌};
 
-/// The greatest number of breakpoints of a session.
-pub const MOST_BREAKS: usize = 64;
-
-/// For how many bytes a session that has ended or begins anew keeps memory that it has no use for, in each of its
-/// lists of bytes; in each other list, for a 64th of that number of items.
-pub const MOST_ROOM: usize = 65_536;
+pub use spec_sessions::{MOST_BREAKS, MOST_ROOM};
 
 /// The law of what the limits are.
 pub fn limits_are_these()

@@ -1,16 +1,16 @@
 //! A store of programs in a row of cells.
 
 ghost use Rattle.std.specs.Prelude.{◌≡◌, None, IfErr, IfOk};
-ghost use Rattle.program_definition.specs.Code.{code_of};
-ghost use Rattle.session_core.specs.declared.publish_error.PublishError.TheVariants.{ProgramTooLarge};
+ghost use Rattle.spec_machine.specs.Code.{code_of};
+ghost use Rattle.spec_sessions.specs.declared.publish_error.PublishError.TheVariants.{ProgramTooLarge};
 ghost use Rattle.session_core.specs.Publishing.{IsPublished};
 
 use crate::programs::Programs;
-use crate::publish_error::PublishError;
 use avro_schema::Schema;
 use machine::{PairProgram, PlannedProgram};
 use once_cell::race::OnceBox;
 use program_compiler::CompileError;
+use spec_sessions::PublishError;
 use std::alloc::{AllocError, Global};
 use std::marker::Model;
 

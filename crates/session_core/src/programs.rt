@@ -2,9 +2,9 @@
 
 ghost use Rattle.session_core.specs.Publishing.{IsPublished};
 
-use crate::publish_error::PublishError;
 use avro_schema::Schema;
 use machine::PlannedProgram;
+use spec_sessions::PublishError;
 
 /// A store of the programs of pairs of schemas.
 pub trait Programs {

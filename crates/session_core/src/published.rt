@@ -12,7 +12,7 @@ pub(crate) struct Published<'p> {
 }
 
 impl<'p> Model for Published<'p> {
-    ghost use Rattle.session_core.specs.World.{Publication};
+    ghost use Rattle.spec_sessions.specs.World.{Publication};
 
     ghost Value = { Publication };
 

@@ -3,15 +3,16 @@
 ghost use Rattle.std.specs.Prelude.{◌≡◌, [], ℕ, IfOk, OnOk, length, map};
 ghost use Rattle.session_core.specs.Ending.{SessionEndsWithOutcome};
 ghost use Rattle.session_core.specs.Event.{event_of};
-ghost use Rattle.session_core.specs.Happening.{Happened, steps_of};
-ghost use Rattle.session_core.specs.Isolation.{AreTheirOwn};
-ghost use Rattle.session_core.specs.World.{no_world};
+ghost use Rattle.spec_sessions.specs.Happening.{Happened};
+ghost use Rattle.session_core.specs.Happening.{steps_of};
+ghost use Rattle.spec_sessions.specs.Isolation.{AreTheirOwn};
+ghost use Rattle.spec_sessions.specs.World.{no_world};
 
 use crate::event::Event;
 use crate::laws::sessions_are_their_own;
 use crate::programs::Programs;
-use crate::reply::EventReply;
 use crate::world::World;
+use spec_sessions::EventReply;
 use std::alloc::{AllocError, Global};
 
 /// Applies events to a world, one after another, and appends the reply to each to `replies`.

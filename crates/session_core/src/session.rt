@@ -3,15 +3,16 @@
 ghost use Rattle.std.specs.Prelude.{◌≡◌, ◌≤◌, ◌<◌, ◌+◌, [], if◌then◌else◌, false, is_some, length, option_map, slice_get, None, Some, IfErr, OnOk};
 ghost use Rattle.machine.specs.Run.{IsCarry};
 ghost use Rattle.machine_stepper.specs.Running.{end_of as machine_end_of};
-ghost use Rattle.program_definition.specs.Code.{code_of};
-ghost use Rattle.session_core.specs.Changes.{IsPieceRefusal, Maybe, Surely, break_refusal, clear_refusal, cleared_at, finished, piece_refusal, refused, set_at, with_piece};
-ghost use Rattle.session_core.specs.SessionEnding.{EndsInOneSlice, SessionLeadsToOutcome, end_of};
+ghost use Rattle.spec_machine.specs.Code.{code_of};
+ghost use Rattle.session_core.specs.Changes.{IsPieceRefusal};
+ghost use Rattle.spec_sessions.specs.Changes.{Maybe, Surely, break_refusal, clear_refusal, cleared_at, finished, piece_refusal, refused, set_at, with_piece};
+ghost use Rattle.session_core.specs.SessionEnding.{EndsInOneSlice, SessionLeadsToOutcome};
+ghost use Rattle.spec_sessions.specs.SessionEnding.{end_of};
 ghost use Rattle.session_core.specs.SessionKept.{IsMade, IsSession};
-ghost use Rattle.session_core.specs.Rows.{TakesRows, go_rows, heeded, rows_under, slice_rows, walk_rows};
-ghost use Rattle.session_core.specs.Session.{OutOfMemory, end_in, has_break, session_end, state_of, without_break};
+ghost use Rattle.spec_sessions.specs.Rows.{TakesRows, go_rows, heeded, rows_under, slice_rows, walk_rows};
+ghost use Rattle.spec_sessions.specs.Session.{OutOfMemory, end_in, has_break, session_end, state_of, without_break};
 ghost use Rattle.session_core.specs.Stopping.{IsStopped};
 
-use crate::end::SessionEnd;
 use crate::limits::{MOST_BREAKS, MOST_ROOM};
 use crate::session_refusal::{BreakRefusal, ClearRefusal, PieceRefusal, RefusedPiece};
 use crate::slice::{Slice, Stopped};
@@ -21,6 +22,7 @@ use avro_types::Nodes;
 use isa::{End, Program};
 use machine::{Machine, PlannedProgram, Run, Why};
 use program_correctness::runs_alone_are_counted_and_stay;
+use spec_sessions::SessionEnd;
 use std::alloc::Global;
 use std::marker::Model;
 
@@ -85,7 +87,7 @@ pub struct Session<'p> {
 
 impl<'p> Model for Session<'p> {
     ghost use Rattle.session_core.specs.SessionKept.{IsSession};
-    ghost use Rattle.session_core.specs.Session.{Session};
+    ghost use Rattle.spec_sessions.specs.Session.{Session};
 
     ghost Value = { Session };
 
@@ -109,8 +111,8 @@ impl<'p> Model for Session<'p> {
 }
 
 impl<'p> Session<'p> {
-    ghost use Rattle.isa.specs.State.{State};
-    ghost use Rattle.session_core.specs.Session.{begun};
+    ghost use Rattle.spec_machine.specs.State.{State};
+    ghost use Rattle.spec_sessions.specs.Session.{begun};
 
     /// Returns a session before its first piece. It takes no memory.
     pub fn begin(alloc: Global, program: &'p PlannedProgram) -> Session<'p>

@@ -1,11 +1,10 @@
 //! Taking rows of a run, where a row that finds no memory is reported apart.
 
 ghost use Rattle.std.specs.Prelude.{◌≡◌, ◌≢◌, ◌≤◌, ◌<◌, ◌+◌, slice_get};
-ghost use Rattle.isa.specs.Row.{row_of};
+ghost use Rattle.spec_machine.specs.Row.{row_of};
 ghost use Rattle.machine_stepper.specs.declared.slice.Why.TheVariants.{NoMemory};
-ghost use Rattle.session_core.specs.Rows.{slice_from};
-ghost use Rattle.machine_stepper.specs.Contract.{GoesOn};
-ghost use Rattle.machine_stepper.specs.Memory.{MayGrow};
+ghost use Rattle.spec_sessions.specs.Rows.{slice_from};
+ghost use Rattle.spec_machine.specs.Memory.{GoesOn, MayGrow};
 ghost use Rattle.machine_stepper.specs.Slice.{IsWhy};
 
 use machine::{Run, Slice, Why};

@@ -1,29 +1,31 @@
 //! Sessions beside a registry, on one thread.
 
 ghost use Rattle.std.specs.Prelude.{◌≡◌, ◌≢◌, ℕ, IfOk, IfSome, IsSome, OnErr, option_map, slice_get, string_bytes};
-ghost use Rattle.schema_registry.specs.Accepting.{registry_after};
+ghost use Rattle.spec_registry.specs.Accepting.{registry_after};
 ghost use Rattle.schema_registry.specs.Answer.{unless_refused};
-ghost use Rattle.schema_registry.specs.Answers.{answer_to};
-ghost use Rattle.schema_registry.specs.Command.{RegisterCommand, SetLevelCommand, command_of};
-ghost use Rattle.schema_registry.specs.Reply.{LevelReply};
+ghost use Rattle.spec_registry.specs.Answers.{answer_to};
+ghost use Rattle.spec_registry.specs.Command.{RegisterCommand, SetLevelCommand};
+ghost use Rattle.schema_registry.specs.Command.{command_of};
+ghost use Rattle.spec_registry.specs.Reply.{LevelReply};
 ghost use Rattle.session_core.specs.Ending.{SessionEndsWithOutcome};
-ghost use Rattle.session_core.specs.Event.{Begin, On, Publish, Register, SetLevel, act_of, event_of};
-ghost use Rattle.session_core.specs.Happening.{Adds, Happens, level_reply};
-ghost use Rattle.session_core.specs.World.{IsCodeOf, no_world, program_at};
+ghost use Rattle.spec_sessions.specs.Event.{Begin, On, Publish, Register, SetLevel};
+ghost use Rattle.session_core.specs.Event.{act_of, event_of};
+ghost use Rattle.session_core.specs.Happening.{Adds, level_reply};
+ghost use Rattle.spec_sessions.specs.Happening.{Happens};
+ghost use Rattle.session_core.specs.World.{IsCodeOf};
+ghost use Rattle.spec_sessions.specs.World.{no_world, program_at};
 
 use crate::Session;
 use crate::act::Act;
 use crate::event::Event;
 use crate::held::Held;
 use crate::programs::Programs;
-use crate::publish_error::PublishError;
 use crate::published::Published;
-use crate::refusal::EventRefusal;
-use crate::reply::EventReply;
 use avro_schema::SchemaError;
 use avro_types::MOST_TEXT;
 use machine::PlannedProgram;
 use schema_registry::{Command, Level, Refusal, Registry, Reply, is_subject};
+use spec_sessions::{EventRefusal, EventReply, PublishError};
 use std::alloc::{AllocError, Global};
 use std::marker::Model;
 
@@ -38,7 +40,7 @@ pub struct World<'p> {
 
 impl<'p> Model for World<'p> {
     ghost use Rattle.session_core.specs.Kept.{IsKept};
-    ghost use Rattle.session_core.specs.World.{World};
+    ghost use Rattle.spec_sessions.specs.World.{World};
 
     ghost Value = { World };
 

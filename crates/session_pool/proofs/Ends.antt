@@ -4,16 +4,16 @@ use Rattle.std.specs.Prelude.{option_map}
 use Rattle.std.specs.Option.{option_and_then}
 use Rattle.std.proofs.lemmas.Option.{none-some, same_Some}
 use Rattle.spec_avro.specs.Node.{Node}
-use Rattle.isa.specs.State as state
-use Rattle.isa.specs.State.{State}
-use Rattle.isa.specs.Program.{Program}
+use Rattle.spec_machine.specs.State as state
+use Rattle.spec_machine.specs.State.{State}
+use Rattle.spec_machine.specs.Program.{Program}
 use Rattle.spec_avro.specs.Outcome.{Outcome}
 use Rattle.spec_avro.specs.PayloadOutcome.{IsOutcome}
-use Rattle.program_definition.specs.Code.{code_of}
-use Rattle.program_correctness.specs.Alone.{run_alone}
-use Rattle.program_correctness.specs.Simulation.{EachEndIsOutcome, EarlyEndIsOutcome, IsOutcomeOf}
-use Rattle.session_core.specs.Session.{Session, SessionEnd, Out, OutOfMemory, end_in, session_end, state_of}
-use Rattle.session_pool.specs.Finishing.{IsEnd}
+use Rattle.spec_machine.specs.Code.{code_of}
+use Rattle.spec_machine.specs.Alone.{run_alone}
+use Rattle.spec_machine.specs.Simulation.{EachEndIsOutcome, EarlyEndIsOutcome, IsOutcomeOf}
+use Rattle.spec_sessions.specs.Session.{Session, SessionEnd, Out, OutOfMemory, end_in, session_end, state_of}
+use Rattle.spec_sessions.specs.Finishing.{IsEnd}
 
 module _ (W R : List Node) (bytes : List ℕ) (s : State) where
   out_of : (o : Outcome) → s.end ≡ Some (state.Out o) → IsOutcomeOf W R bytes (state.Out o) → IsEnd W R bytes (Out o) s

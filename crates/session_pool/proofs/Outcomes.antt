@@ -1,14 +1,17 @@
 -- What a session that has ended finishes.
 use Rattle.std.proofs.Common.{◌≡◌, ℕ, List, Some, sym, ap, ◌∙◌, subst, arith}
 use Rattle.spec_avro.specs.Node.{Node}
-use Rattle.isa.specs.Program.{Program}
-use Rattle.program_correctness.specs.Alone.{run_alone}
-use Rattle.session_core.specs.SessionEnding.{end_of}
-use Rattle.session_core.specs.Session.{Session}
-use Rattle.session_pool_slots.specs.Account.{Account, At}
-use Rattle.session_pool.specs.declared.finishing.Finished.{Finished}
-use Rattle.session_pool.specs.Finishing.{EndsOf, Finishes, IsEnd}
-use Rattle.session_pool.specs.Pass.{LeadsToOutcomes, Pass}
+use Rattle.spec_machine.specs.Program.{Program}
+use Rattle.spec_machine.specs.Alone.{run_alone}
+use Rattle.spec_sessions.specs.SessionEnding.{end_of}
+use Rattle.spec_sessions.specs.Session.{Session}
+use Rattle.spec_sessions.specs.Account.{Account}
+use Rattle.session_pool_slots.specs.Account.{At}
+use Rattle.spec_sessions.specs.declared.finished.Finished.{Finished}
+use Rattle.session_pool.specs.Finishing.{EndsOf}
+use Rattle.spec_sessions.specs.Finishing.{Finishes, IsEnd}
+use Rattle.session_pool.specs.Pass.{LeadsToOutcomes}
+use Rattle.spec_sessions.specs.Pass.{Pass}
 use Rattle.session_pool.proofs.Ends.{end_is}
 
 module _ (pass : Pass) (leads : LeadsToOutcomes pass.pair) (a : Account) (y : Session) (f : Finished) (fits : At a y) (runs : a.program ≡ pass.pair.program) (ends : EndsOf y f) where

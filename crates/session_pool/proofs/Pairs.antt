@@ -1,11 +1,11 @@
 -- A pair of schemas, as a pass keeps it.
 use Rattle.std.proofs.Common.{◌≡◌, List, Some, subst, sym}
 use Rattle.spec_avro.specs.Node.{Node}
-use Rattle.avro_schema.specs.Schema.{Declaration}
-use Rattle.isa.specs.Program.{Program}
-use Rattle.machine.specs.ProgramPair.{Pair}
-use Rattle.program_correctness.specs.Simulation.{EachEndIsOutcome, EarlyEndIsOutcome}
-use Rattle.program_definition.specs.Code.{code_of}
+use Rattle.spec_schema.specs.Schema.{Declaration}
+use Rattle.spec_machine.specs.Program.{Program}
+use Rattle.spec_sessions.specs.ProgramPair.{Pair}
+use Rattle.spec_machine.specs.Simulation.{EachEndIsOutcome, EarlyEndIsOutcome}
+use Rattle.spec_machine.specs.Code.{code_of}
 use Rattle.session_pool.specs.Pass.{LeadsToOutcomes}
 
 abbrev pair_of : Declaration → Declaration → Program → Pair

@@ -1,21 +1,22 @@
 -- A pass after a call.
 use Rattle.std.proofs.Common.{◌≡◌, ◌<◌, ℕ, ◌+◌, List, [], ◌∷◌, ◌++◌, Some, refl, sym, ap, ◌∙◌, inl, subst, arith}
-use Rattle.isa.specs.Program.{Program}
-use Rattle.session_core.specs.Session.{Session}
+use Rattle.spec_machine.specs.Program.{Program}
+use Rattle.spec_sessions.specs.Session.{Session}
 use Rattle.session_pool_slots.specs.Results.{Finds, GaveBack, HasIn, HasOut, Others, TookOut}
 use Rattle.session_pool_slots.specs.Steps.{handing, pass_in, pass_out}
 use Rattle.session_pool_slots.specs.Views.{Handed}
 use Rattle.session_pool_slots.specs.Words.{ready, slots}
-use Rattle.session_pool_slots.specs.Account.{Account, At, RowsOn, has_ended, kept, new_account, told_all, with_breaks, with_seen}
+use Rattle.spec_sessions.specs.Account.{Account}
+use Rattle.session_pool_slots.specs.Account.{At, RowsOn, has_ended, kept, new_account, told_all, with_breaks, with_seen}
 use Rattle.session_pool_slots.specs.Known.{Known, PassData, pass_of}
 use Rattle.session_pool_slots.proofs.Accounts.{rows_keep}
 use Rattle.session_pool_slots.specs.declared.slots.SlotSeat.{SlotSeat}
-use Rattle.machine.specs.ProgramPair.{Pair}
+use Rattle.spec_sessions.specs.ProgramPair.{Pair}
 use Rattle.session_pool_slots.specs.Opening.{HasBegun}
 use Rattle.session_pool_slots.specs.Seats.{knows}
 use Rattle.session_pool_slots.specs.Taking.{TakesOut}
 use Rattle.session_pool.specs.declared.pool.ClientSeat.{ClientSeat}
-use Rattle.session_pool.specs.Pass.{Pass}
+use Rattle.spec_sessions.specs.Pass.{Pass}
 use Rattle.session_pool.specs.Seats.{HandsBack, IsPassOf, account_or, left_or, told}
 
 module _ (P : Program) (old mid new : Known) (i slot word : ℕ) (y x : Session) (same : i ≡ slot) (has : HasIn old slot) (its : (account_or P (pass_of slot old)).program ≡ P) (took : (p : PassData) → pass_of i old ≡ Some p → TookOut At has_ended old i p word y mid) where

@@ -1,16 +1,16 @@
 -- What a refused breakpoint comes to.
 use Rattle.std.proofs.Common.{◌≡◌, ℕ, false, Err, refl}
-use Rattle.session_core.specs.declared.session_refusal.BreakRefusal.{BreakRefusal}
-use Rattle.session_core.specs.declared.session_refusal.BreakRefusal.TheVariants as breaks
-use Rattle.session_core.specs.declared.session_refusal.ClearRefusal.{ClearRefusal}
-use Rattle.session_core.specs.declared.session_refusal.ClearRefusal.TheVariants as clears
-use Rattle.session_core.specs.Changes.{Maybe, Surely, break_refusal, clear_refusal, cleared_at, set_at}
-use Rattle.session_core.specs.Session.{Session, has_break}
+use Rattle.spec_sessions.specs.declared.session_refusal.BreakRefusal.{BreakRefusal}
+use Rattle.spec_sessions.specs.declared.session_refusal.BreakRefusal.TheVariants as breaks
+use Rattle.spec_sessions.specs.declared.session_refusal.ClearRefusal.{ClearRefusal}
+use Rattle.spec_sessions.specs.declared.session_refusal.ClearRefusal.TheVariants as clears
+use Rattle.spec_sessions.specs.Changes.{Maybe, Surely, break_refusal, clear_refusal, cleared_at, set_at}
+use Rattle.spec_sessions.specs.Session.{Session, has_break}
 use Rattle.session_pool.specs.declared.debugging.DebugCommand.TheVariants as ask
 use Rattle.session_pool.specs.declared.pool.ClientSeat.{ClientSeat}
 use Rattle.session_pool.specs.DebugErrors.{break_error, clear_error}
 use Rattle.session_pool.specs.Debugging.{Debugs}
-use Rattle.session_pool.specs.Pass.{Pass}
+use Rattle.spec_sessions.specs.Pass.{Pass}
 use Rattle.session_pool.specs.Seats.{HandsBack, told}
 
 module _ (address : ℕ) (old : ClientSeat) (pass : Pass) (new : ClientSeat) (y x : Session) where

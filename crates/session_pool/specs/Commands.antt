@@ -1,6 +1,6 @@
 -- Which acts of a session a debugger asks for. All of this is this project's own.
 use Rattle.std.specs.Prelude.{Option, Some, None}
-use Rattle.session_core.specs.Event.{Act, Break, Clear, Go, Walk}
+use Rattle.spec_sessions.specs.Event.{Act, Break, Clear, Go, Walk}
 use Rattle.session_pool.specs.declared.debugging.DebugCommand.{DebugCommand}
 use Rattle.session_pool.specs.declared.debugging.DebugCommand.TheVariants as ask
 

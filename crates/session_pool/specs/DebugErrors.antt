@@ -1,8 +1,8 @@
 -- Why a breakpoint is not set or cleared. All of this is this project's own.
-use Rattle.session_core.specs.declared.session_refusal.BreakRefusal.{BreakRefusal}
-use Rattle.session_core.specs.declared.session_refusal.BreakRefusal.TheVariants as breaks
-use Rattle.session_core.specs.declared.session_refusal.ClearRefusal.{ClearRefusal}
-use Rattle.session_core.specs.declared.session_refusal.ClearRefusal.TheVariants as clears
+use Rattle.spec_sessions.specs.declared.session_refusal.BreakRefusal.{BreakRefusal}
+use Rattle.spec_sessions.specs.declared.session_refusal.BreakRefusal.TheVariants as breaks
+use Rattle.spec_sessions.specs.declared.session_refusal.ClearRefusal.{ClearRefusal}
+use Rattle.spec_sessions.specs.declared.session_refusal.ClearRefusal.TheVariants as clears
 use Rattle.session_pool.specs.declared.debug_error.DebugError.{DebugError}
 use Rattle.session_pool.specs.declared.debug_error.DebugError.TheVariants.{BadAddress, NoMemory, TooManyBreaks}
 

@@ -1,13 +1,14 @@
 -- What a debugger's command does to a session, and what is answered. All of this is this project's own.
 use Rattle.std.specs.Prelude.{◌≡◌, false, Some, None, Result, Ok, Err, string_bytes}
-use Rattle.debugger.specs.Sessions.{Lists, Shows}
-use Rattle.session_core.specs.declared.session_refusal.BreakRefusal.TheVariants as breaks
-use Rattle.session_core.specs.declared.session_refusal.ClearRefusal.TheVariants as clears
-use Rattle.session_core.specs.Changes.{break_refusal, clear_refusal, cleared_at, set_at}
-use Rattle.session_core.specs.Rows.{TakesRows, go_rows, walk_rows}
-use Rattle.session_core.specs.Session.{Session, has_break, with_break, without_break}
+use Rattle.spec_lines.specs.ShownSessions.{Lists, Shows}
+use Rattle.spec_sessions.specs.declared.session_refusal.BreakRefusal.TheVariants as breaks
+use Rattle.spec_sessions.specs.declared.session_refusal.ClearRefusal.TheVariants as clears
+use Rattle.spec_sessions.specs.Changes.{break_refusal, clear_refusal, cleared_at, set_at}
+use Rattle.spec_sessions.specs.Rows.{TakesRows, go_rows, walk_rows}
+use Rattle.spec_sessions.specs.Session.{Session, has_break, with_break, without_break}
 use Rattle.session_pool_slots.specs.Words.{with_worker}
-use Rattle.session_pool_slots.specs.Account.{Account, with_breaks, with_seen}
+use Rattle.spec_sessions.specs.Account.{Account}
+use Rattle.session_pool_slots.specs.Account.{with_breaks, with_seen}
 use Rattle.session_pool.specs.declared.debug_error.DebugError.{DebugError}
 use Rattle.session_pool.specs.declared.debug_error.DebugError.TheVariants.{BadAddress, Busy, NoMemory, TooManyBreaks}
 use Rattle.session_pool.specs.declared.debugging.DebugCommand.{DebugCommand}
@@ -15,7 +16,7 @@ use Rattle.session_pool.specs.declared.debugging.DebugCommand.TheVariants as ask
 use Rattle.session_pool.specs.declared.debugging.DebugReply.{DebugReply}
 use Rattle.session_pool.specs.declared.debugging.DebugReply.TheVariants.{Done, Rows, Text}
 use Rattle.session_pool.specs.declared.pool.ClientSeat.{ClientSeat}
-use Rattle.session_pool.specs.Pass.{Pass}
+use Rattle.spec_sessions.specs.Pass.{Pass}
 use Rattle.session_pool.specs.Seats.{Finds, HandsBack, HandsNothing, LetsGoOn, left, told}
 
 -- What the command makes of a session, and what is answered.

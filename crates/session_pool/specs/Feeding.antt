@@ -1,13 +1,13 @@
 -- Why a piece is refused. All of this is this project's own.
 use Rattle.std.specs.Prelude.{◌≡◌, ◌<◌, ℕ, ◌+◌, List, length, true}
 use Rattle.spec_avro.specs.declared.limits.TheConstants.{MOST_PAYLOAD}
-use Rattle.session_core.specs.declared.session_refusal.PieceRefusal.{PieceRefusal}
-use Rattle.session_core.specs.declared.session_refusal.PieceRefusal.TheVariants as session
-use Rattle.session_pool_slots.specs.Account.{Account}
+use Rattle.spec_sessions.specs.declared.session_refusal.PieceRefusal.{PieceRefusal}
+use Rattle.spec_sessions.specs.declared.session_refusal.PieceRefusal.TheVariants as session
+use Rattle.spec_sessions.specs.Account.{Account}
 use Rattle.session_pool.specs.declared.refusals.PieceError.{PieceError}
 use Rattle.session_pool.specs.declared.refusals.PieceError.TheVariants.{Busy, Ended, NoMemory, TooLarge}
 use Rattle.session_pool.specs.declared.pool.ClientSeat.{ClientSeat}
-use Rattle.session_pool.specs.Pass.{Pass}
+use Rattle.spec_sessions.specs.Pass.{Pass}
 use Rattle.session_pool.specs.Seats.{Finds, left}
 
 -- A worker had the session, and the call found it so; all bytes would pass the limit of a payload; no more were to

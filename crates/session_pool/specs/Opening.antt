@@ -1,8 +1,8 @@
 -- What `open` answers. All of this is this project's own.
 use Rattle.std.specs.Prelude.{◌≡◌, ◌∷◌, [], Option, Some, None, IfSome, MatchOption}
 use Rattle.std.proofs.Common.{Bor}
-use Rattle.avro_schema.specs.Schema.{Declaration}
-use Rattle.program_definition.specs.Code.{code_of}
+use Rattle.spec_schema.specs.Schema.{Declaration}
+use Rattle.spec_machine.specs.Code.{code_of}
 use Rattle.program_cache.specs.Compiled.{IsOther}
 use Rattle.program_cache.specs.declared.compiled.Compiled.{Compiled}
 use Rattle.program_cache.specs.declared.refusal.PairRefusal.{PairRefusal}
@@ -15,7 +15,7 @@ use Rattle.session_pool_slots.specs.Seats.{knows}
 use Rattle.session_pool.specs.declared.pool.ClientSeat.{ClientSeat}
 use Rattle.session_pool.specs.declared.refusals.OpenError.{OpenError}
 use Rattle.session_pool.specs.declared.refusals.OpenError.TheVariants.{Clash, Full, NoMemory, ProgramTooLarge}
-use Rattle.session_pool.specs.Pass.{Pass}
+use Rattle.spec_sessions.specs.Pass.{Pass}
 use Rattle.session_pool.specs.Seats.{IsGone, KeepsOthers, left, told}
 
 -- the pass is for a session of these two schemas' program

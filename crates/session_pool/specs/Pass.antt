@@ -1,13 +1,8 @@
 -- A client's right to a session. All of this is this project's own.
-use Rattle.std.specs.Prelude.{◌≡◌, ℕ, Some}
-use Rattle.machine.specs.ProgramPair.{Pair}
-use Rattle.program_correctness.specs.Simulation.{EachEndIsOutcome, EarlyEndIsOutcome}
-use Rattle.program_definition.specs.Code.{code_of}
-
--- the slot that the session is in, and the pair of schemas with the program that it runs
-pub record Pass : Type 0 where
-  pub slot : ℕ
-  pub pair : Pair
+use Rattle.std.specs.Prelude.{◌≡◌, Some}
+use Rattle.spec_sessions.specs.ProgramPair.{Pair}
+use Rattle.spec_machine.specs.Simulation.{EachEndIsOutcome, EarlyEndIsOutcome}
+use Rattle.spec_machine.specs.Code.{code_of}
 
 -- The program is the pair's, and each end that it comes to, run alone, is the outcome: that of the bytes that came, and
 -- where more may come of every continuation too.

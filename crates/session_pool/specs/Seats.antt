@@ -1,20 +1,21 @@
 -- What contracts say of a pool's seats and passes. All of this is this project's own.
 use Rattle.std.specs.Prelude.{◌≡◌, ◌⊎◌, ℕ, [], ◌∷◌, ◌++◌, Option, Some, None}
-use Rattle.isa.specs.Program.{Program}
-use Rattle.session_core.specs.Session.{Session}
+use Rattle.spec_machine.specs.Program.{Program}
+use Rattle.spec_sessions.specs.Session.{Session}
 use Rattle.session_pool_jobs.specs.Calls.{IsEmpty}
 use Rattle.session_pool_jobs.specs.Seats as jobs
 use Rattle.session_pool_slots.specs.Results as results
 use Rattle.session_pool_slots.specs.Steps.{handing}
 use Rattle.session_pool_slots.specs.Words.{ended, free, ready}
-use Rattle.session_pool_slots.specs.Account.{Account, At, new_account}
+use Rattle.spec_sessions.specs.Account.{Account}
+use Rattle.session_pool_slots.specs.Account.{At, new_account}
 use Rattle.session_pool_slots.specs.Known.{PassData, blank, pass_of}
 use Rattle.session_pool_slots.specs.Seats as slots
 use Rattle.session_pool_slots.specs.Seats.{knows}
 use Rattle.session_pool.specs.declared.pool.ClientSeat.{ClientSeat}
 use Rattle.session_pool.specs.declared.pool.SessionPool.{SessionPool}
 use Rattle.session_pool.specs.declared.pool.WorkerSeat.{WorkerSeat}
-use Rattle.session_pool.specs.Pass.{Pass}
+use Rattle.spec_sessions.specs.Pass.{Pass}
 
 -- ---- seats
 

@@ -2,8 +2,8 @@
 use Rattle.std.specs.Prelude.{◌≡◌, ◌<◌, ◌≤◌, ℕ, [], ◌∷◌, ◌++◌}
 use Rattle.session_core.specs.declared.slice.Stopped.{Stopped}
 use Rattle.session_core.specs.SessionEnding.{EndsInOneSlice}
-use Rattle.session_core.specs.Rows.{TakesRows, slice_rows}
-use Rattle.session_core.specs.Session.{Session}
+use Rattle.spec_sessions.specs.Rows.{TakesRows, slice_rows}
+use Rattle.spec_sessions.specs.Session.{Session}
 use Rattle.session_core.specs.Stopping.{IsStopped}
 use Rattle.session_pool_slots.specs.Results.{Finds}
 use Rattle.session_pool_slots.specs.Steps.{handing}

@@ -1,7 +1,7 @@
 //! Feeding a session.
 
 ghost use Rattle.std.specs.Prelude.{◌≡◌, IfErr, OnErr, OnOk};
-ghost use Rattle.session_core.specs.Changes.{finished, with_piece};
+ghost use Rattle.spec_sessions.specs.Changes.{finished, with_piece};
 ghost use Rattle.session_pool_slots.specs.Words.{with_worker};
 ghost use Rattle.session_pool_slots.specs.Account.{with_close, with_sent};
 

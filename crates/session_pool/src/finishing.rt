@@ -1,8 +1,7 @@
 //! How a session ended, and how one is abandoned.
 
 ghost use Rattle.std.specs.Prelude.{◌≡◌, IfErr, IfOk, OnErr, OnOk, Some, true};
-ghost use Rattle.session_core.specs.SessionEnding.{end_of};
-ghost use Rattle.session_core.specs.Session.{begun, end_in};
+ghost use Rattle.spec_sessions.specs.Session.{begun};
 ghost use Rattle.session_pool_slots.specs.Words.{with_worker};
 ghost use Rattle.session_pool_slots.specs.Account.{has_ended};
 ghost use Rattle.session_pool.specs.Finishing.{EndsOf};
@@ -10,15 +9,9 @@ ghost use Rattle.session_pool.specs.Finishing.{EndsOf};
 use crate::pass::Pass;
 use crate::pool::{ClientSeat, SessionPool};
 use crate::refusals::{NotYet, ReturnedPass};
-use session_core::{Session, SessionEnd};
+use session_core::Session;
 use session_pool_slots::Busy;
-
-/// How a session ended, and after how many rows.
-#[derive(Debug, Drop, PartialEq, Eq)]
-pub struct Finished {
-    pub end: SessionEnd,
-    pub rows: u64,
-}
+pub use spec_sessions::Finished;
 
 /// Takes the end of a session that has ended, and returns it with the number of its rows. The session goes back to
 /// its beginning.
@@ -36,7 +29,8 @@ fn come_to(session: &mut Session) -> Finished
 
 impl<'p> SessionPool<'p> {
     ghost use Rattle.session_pool.specs.Seats.{Finds, IsGone, IsPassOf, KeepsOthers, Rests, told};
-    ghost use Rattle.session_pool.specs.Finishing.{Finishes, IsWhyNotYet};
+    ghost use Rattle.spec_sessions.specs.Finishing.{Finishes};
+    ghost use Rattle.session_pool.specs.Finishing.{IsWhyNotYet};
 
     /// Returns how a session ended and after how many rows, and frees its slot.
     ///

@@ -1,7 +1,7 @@
 //! Opening a session.
 
 ghost use Rattle.std.specs.Prelude.{◌≡◌, IfErr, IfOk, MatchOption, OnErr};
-ghost use Rattle.schema_registry.specs.Receipt.{IsReceiptOf};
+ghost use Rattle.spec_registry.specs.Receipt.{IsReceiptOf};
 ghost use Rattle.session_pool.specs.Opening.{IsFor, IsWhyNotOpened};
 
 use crate::pass::Pass;

@@ -1,7 +1,7 @@
 //! A client's right to a session.
 
 ghost use Rattle.std.specs.Prelude.{◌≡◌, Some};
-ghost use Rattle.program_definition.specs.Code.{code_of};
+ghost use Rattle.spec_machine.specs.Code.{code_of};
 
 use avro_schema::Schema;
 use machine::PlannedProgram;
@@ -21,7 +21,8 @@ pub struct Pass {
 impl Model for Pass {
     ghost use Rattle.std.specs.Coded.{codes};
     ghost use Rattle.avro_types.specs.DatumCode.{datum_coded};
-    ghost use Rattle.session_pool.specs.Pass.{LeadsToOutcomes, Pass};
+    ghost use Rattle.session_pool.specs.Pass.{LeadsToOutcomes};
+    ghost use Rattle.spec_sessions.specs.Pass.{Pass};
 
     ghost Value = { Pass };
 

@@ -1,8 +1,9 @@
 -- Accounts of sessions.
 use Rattle.std.proofs.Common.{◌≡◌, ◌≤◌, ℕ, refl, arith, ap, ◌∙◌, ⊎_elim}
-use Rattle.session_core.specs.Session.{Session}
-use Rattle.session_core.specs.Rows.{TakesRows}
-use Rattle.session_pool_slots.specs.Account.{Account, At, RowsOn, kept, told_all}
+use Rattle.spec_sessions.specs.Session.{Session}
+use Rattle.spec_sessions.specs.Rows.{TakesRows}
+use Rattle.spec_sessions.specs.Account.{Account}
+use Rattle.session_pool_slots.specs.Account.{At, RowsOn, kept, told_all}
 
 -- the account that a client's call leaves is that of the session that it gives back
 

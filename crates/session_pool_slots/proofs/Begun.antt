@@ -1,7 +1,7 @@
 -- A session that begins in the first slot that is free.
 use Rattle.std.proofs.Common.{◌≡◌, ◌<◌, ℕ, List, [], ◌∷◌, ◌++◌, Option, None, get_or, refl, sym, ap, ◌∙◌}
-use Rattle.isa.specs.Program.{Program}
-use Rattle.session_core.specs.Session.{Session, begun}
+use Rattle.spec_machine.specs.Program.{Program}
+use Rattle.spec_sessions.specs.Session.{Session, begun}
 use Rattle.session_pool_slots.specs.Words.{free, ready, slots}
 use Rattle.session_pool_slots.specs.Views.{Handed}
 use Rattle.session_pool_slots.specs.Steps.{handing, new_pass}

@@ -1,7 +1,7 @@
 -- A client's session, from its slot into the client's hands.
 use Rattle.std.proofs.Common.{◌≡◌, ℕ, List, [], ◌∷◌, Option, Some, None, IsSome, subst, sym, refl, ap, ◌∙◌}
 use Rattle.atomic_table.specs.Table.{rest}
-use Rattle.session_core.specs.Session.{Session}
+use Rattle.spec_sessions.specs.Session.{Session}
 use Rattle.session_pool_slots.specs.Results.{HasIn, TookOut}
 use Rattle.session_pool_slots.proofs.Calls.{Took, came_out, has_first, lifted, put_in}
 use Rattle.session_pool_slots.specs.declared.slots.SlotSeat.{SlotSeat}

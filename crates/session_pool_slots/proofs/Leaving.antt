@@ -1,8 +1,8 @@
 -- The words that sessions leave are words of sessions at home.
 use Rattle.std.proofs.Common.{◌≡◌, ◌<◌, ℕ, Bool, true, false, refl, sym, ◌∙◌, arith, true≢false}
-use Rattle.isa.specs.Program.{Program}
-use Rattle.program_correctness.specs.Alone.{rows_from}
-use Rattle.session_core.specs.Session.{begun}
+use Rattle.spec_machine.specs.Program.{Program}
+use Rattle.spec_machine.specs.Alone.{rows_from}
+use Rattle.spec_sessions.specs.Session.{begun}
 use Rattle.session_pool_slots.specs.Words.{IsWordOf, ended, free}
 use Rattle.session_pool_slots.specs.Account.{has_ended}
 

@@ -1,12 +1,12 @@
 -- The word that a slice leaves is that of a session at home.
 use Rattle.std.proofs.Common.{◌≡◌, ℕ, Bool, true, false, List, Option, Some, None, is_some, option_map, if◌then◌else◌, subst, sym, refl, ap, ◌∙◌, arith}
 use Rattle.std.specs.Option.{option_and_then}
-use Rattle.isa.specs.State as states
-use Rattle.isa.specs.State.{State}
+use Rattle.spec_machine.specs.State as states
+use Rattle.spec_machine.specs.State.{State}
 use Rattle.machine_stepper.specs.Slice.{IsWhy}
 use Rattle.session_core.specs.declared.slice.Stopped.{Stopped}
 use Rattle.session_core.specs.declared.slice.Stopped.TheVariants.{Broke, Ended, Spent, Waits}
-use Rattle.session_core.specs.Session.{OutOfMemory, Session, machine_end, session_end, state_of}
+use Rattle.spec_sessions.specs.Session.{OutOfMemory, Session, machine_end, session_end, state_of}
 use Rattle.session_core.specs.Stopping.{IsStopped, IsStoppedAs, why_of}
 use Rattle.session_pool_slots.specs.Words.{IsWordOf, ready, waiting}
 use Rattle.session_pool_slots.specs.Account.{has_ended}

@@ -1,7 +1,8 @@
 -- What each kind of step on this table says: the general definitions, for sessions and their accounts.
-use Rattle.session_core.specs.Session.{Session}
+use Rattle.spec_sessions.specs.Session.{Session}
 use Rattle.session_pool_slots.specs.Steps as steps
-use Rattle.session_pool_slots.specs.Account.{Account, At, NoRows, RowsOn, has_ended, kept, opened, told_all}
+use Rattle.spec_sessions.specs.Account.{Account}
+use Rattle.session_pool_slots.specs.Account.{At, NoRows, RowsOn, has_ended, kept, opened, told_all}
 
 -- what a kind of step says to its caller
 abbrev pub Telling : Type 1

@@ -1,10 +1,11 @@
 -- What a seat knows, and the rule of the table: the general definitions, for sessions and their accounts.
 use Rattle.std.specs.Prelude.{ℕ, Option}
 use Rattle.atomic_table.specs.Table.{State}
-use Rattle.session_core.specs.Session.{Session}
+use Rattle.spec_sessions.specs.Session.{Session}
 use Rattle.session_pool_slots.specs.Views as views
 use Rattle.session_pool_slots.specs.Rule as rule
-use Rattle.session_pool_slots.specs.Account.{Account, At, has_ended}
+use Rattle.spec_sessions.specs.Account.{Account}
+use Rattle.session_pool_slots.specs.Account.{At, has_ended}
 
 -- what a seat knows
 abbrev pub Known : Type 0

@@ -1,7 +1,7 @@
 -- What the search for a free slot comes to.
 use Rattle.std.specs.Prelude.{◌≡◌, ◌<◌, ℕ, List, [], ◌∷◌, ◌++◌, Option, Some, None}
-use Rattle.isa.specs.Program.{Program}
-use Rattle.session_core.specs.Session.{Session, begun}
+use Rattle.spec_machine.specs.Program.{Program}
+use Rattle.spec_sessions.specs.Session.{Session, begun}
 use Rattle.session_pool_slots.specs.Words.{free, ready, slots}
 use Rattle.session_pool_slots.specs.Steps.{handing, new_pass, pass_in}
 use Rattle.session_pool_slots.specs.Results.{Claimed, HasSame, IsOccupied, Others, Searched, words_of}

@@ -1,6 +1,6 @@
 -- What a client's steps come to.
 use Rattle.std.specs.Prelude.{◌≡◌, ◌⊎◌, ◌<◌, ℕ, [], ◌∷◌, Some, None}
-use Rattle.session_core.specs.Session.{Session}
+use Rattle.spec_sessions.specs.Session.{Session}
 use Rattle.session_pool_slots.specs.Words.{free, ready, slots, with_client}
 use Rattle.session_pool_slots.specs.Results.{Missed, TookOut}
 use Rattle.session_pool_slots.specs.declared.slots.SlotSeat.{SlotSeat}

@@ -1,7 +1,7 @@
 //! How a client comes to a slot of its own.
 
 ghost use Rattle.std.specs.Prelude.{◌≡◌, ◌≢◌, ◌<◌, ◌∷◌, ◌++◌, [], MatchOption, Some};
-ghost use Rattle.session_core.specs.Session.{Session, begun};
+ghost use Rattle.spec_sessions.specs.Session.{Session, begun};
 ghost use Rattle.session_pool_slots.specs.Words.{free, ready, slots};
 ghost use Rattle.session_pool_slots.specs.Results.{GaveBack, HasSame, words_of};
 ghost use Rattle.session_pool_slots.specs.Account.{kept};

@@ -2,7 +2,7 @@
 //! one of the two ends because memory ran out, and is then run anew.
 
 ghost use Rattle.std.specs.Prelude.{◌≡◌, IfOk};
-ghost use Rattle.schema_registry.specs.Receipt.{IsReceiptOf};
+ghost use Rattle.spec_registry.specs.Receipt.{IsReceiptOf};
 ghost use Rattle.session_pool.specs.Seats.{IsPassOf, Rests, RestsWorker};
 
 use crate::cache::published_listing;

@@ -1,6 +1,6 @@
 //! The programs of pairs of registered schemas.
 
-ghost use Rattle.schema_registry.specs.Receipt.{IsReceiptOf};
+ghost use Rattle.spec_registry.specs.Receipt.{IsReceiptOf};
 
 use crate::same::same;
 use crate::schemas::{RECORD, RECORD_LISTING};

@@ -1,7 +1,7 @@
 //! Sessions from their beginning to their end.
 
 ghost use Rattle.std.specs.Prelude.{◌≡◌, IfOk};
-ghost use Rattle.schema_registry.specs.Receipt.{IsReceiptOf};
+ghost use Rattle.spec_registry.specs.Receipt.{IsReceiptOf};
 ghost use Rattle.session_pool.specs.Seats.{IsPassOf, Rests, RestsWorker};
 
 use crate::same::same;

@@ -1,7 +1,7 @@
 //! Which slots sessions are opened in, and in which order workers come to them.
 
 ghost use Rattle.std.specs.Prelude.{◌≡◌};
-ghost use Rattle.schema_registry.specs.Receipt.{IsReceiptOf};
+ghost use Rattle.spec_registry.specs.Receipt.{IsReceiptOf};
 ghost use Rattle.session_pool.specs.Seats.{Rests, RestsWorker};
 
 use crate::courses::{fed, run_through};

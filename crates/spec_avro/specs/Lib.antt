@@ -32,6 +32,7 @@ pub mod Sizes
 pub mod Spelling
 pub mod Symbols
 pub mod Text
+pub mod Transcoding
 pub mod WellFormed
 pub mod Writable
 pub mod Writing

@@ -35,3 +35,6 @@ pub data Node : Type 0 where
   UnionNode : List ℕ → Node
   -- the names, and the fields
   RecordNode : Names → List FieldNode → Node
+
+abbrev pub names_of : List ℕ → List (List ℕ) → Names
+names_of full aliases = record { full = full; aliases = aliases }

@@ -1,7 +1,7 @@
 -- What lines say, one after another.
 use Rattle.std.proofs.Common.{◌≡◌, ◌∙◌, List, [], ◌∷◌, ◌++◌, ℕ, Some, ap, sym, refl}
 use Rattle.std.proofs.lemmas.List.{append-nil, append_assoc}
-use Rattle.schema_registry.specs.Command.{Command}
+use Rattle.spec_registry.specs.Command.{Command}
 use Rattle.store_commands.specs.Import.{Say, said_in}
 
 -- one line more, and what it says

@@ -1,9 +1,9 @@
 -- What lines of `replay` say that make a registry. This project's own.
 use Rattle.std.specs.Prelude.{◌≡◌, ◌==◌, ◌++◌, ◌∷◌, [], ℕ, ◌+◌, length, Bool, true, if◌then◌else◌, List, Option, Some, None, option_map}
-use Rattle.command_io.specs.Reading.{replay_line}
-use Rattle.command_io.specs.Request.{Happen, Request}
-use Rattle.schema_registry.specs.Command.{Command, RegisterCommand, SetLevelCommand}
-use Rattle.session_core.specs.Event.{Register, SetLevel}
+use Rattle.spec_lines.specs.Reading.{replay_line}
+use Rattle.spec_lines.specs.Request.{Happen, Request}
+use Rattle.spec_registry.specs.Command.{Command, RegisterCommand, SetLevelCommand}
+use Rattle.spec_sessions.specs.Event.{Register, SetLevel}
 
 -- it is empty, or begins with `#`, 35
 abbrev pub is_silent : List ℕ → Bool

@@ -3,8 +3,8 @@ use Rattle.std.specs.Prelude.{◌≡◌, ℕ, ◌==◌, ◌||◌, true, if◌the
 use Rattle.std.specs.List.{AllByRecursion, flat_map}
 use Rattle.registry_store.specs.Store.{HasCommands}
 use Rattle.registry_store.specs.Stored.{Stored, Registered, LevelSet}
-use Rattle.schema_registry.specs.Subject.{is_subject}
-use Rattle.schema_registry.specs.Level.{level_named}
+use Rattle.spec_registry.specs.Subject.{is_subject}
+use Rattle.spec_registry.specs.Level.{level_named}
 
 -- a space for LF and CR, which JSON allows only where it allows a space
 abbrev pub one_line_byte : ℕ → ℕ

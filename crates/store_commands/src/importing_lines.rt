@@ -1,9 +1,10 @@
 //! Lines of `replay` that make a registry.
 
 ghost use Rattle.std.specs.Prelude.{◌≡◌, ◌≤◌, ◌++◌, List, IfErr, IfOk, OnErr, Some, length};
-ghost use Rattle.command_io.specs.Lines.{lines};
-ghost use Rattle.command_io.specs.Reading.{replay_line};
-ghost use Rattle.schema_registry.specs.Command.{Command as Asked, command_of};
+ghost use Rattle.spec_lines.specs.Lines.{lines};
+ghost use Rattle.spec_lines.specs.Reading.{replay_line};
+ghost use Rattle.spec_registry.specs.Command.{Command as Asked};
+ghost use Rattle.schema_registry.specs.Command.{command_of};
 ghost use Rattle.store_commands.specs.Import.{AreBefore, Say, command_in, is_silent, said_in};
 
 use command_io::{Request, read_replay_line, split_line};

@@ -9,7 +9,7 @@ ghost use Rattle.store_commands.specs.Cause.{HasListingCause};
 ghost use Rattle.store_commands.specs.Listing.{HasNames, one_line_byte, replay_line, replay_lines};
 
 use registry_store::StoredCommand;
-use schema_registry::{Level, is_subject};
+use schema_registry::{is_subject, parse_level};
 use std::alloc::{AllocError, Global};
 
 /// Returns the byte that is written for a byte of a schema's text: a space for the end of a line, for which JSON has no
@@ -66,7 +66,7 @@ fn is_accepted(command: &StoredCommand) -> bool
         StoredCommand::Registration { subject, .. } => is_subject(subject),
         StoredCommand::Level { subject, level } => {
             subject.as_deref().is_none_or(|subject| is_subject(subject))
-                && Level::parse(level).is_ok()
+                && parse_level(level).is_ok()
         }
     }
 }

@@ -4,11 +4,14 @@ ghost use Rattle.std.specs.Prelude.{◌≡◌, Some, None, is_some, map};
 ghost use Rattle.std.specs.Option.{option_map};
 ghost use Rattle.embedding.specs.Batch.{ReportsBatch, range_of};
 ghost use Rattle.embedding.specs.Opening.{TellsOpening};
-ghost use Rattle.embedding.specs.Report.{ReportsMessage, ReportsPayload, Tells};
+ghost use Rattle.spec_library.specs.Report.{ReportsMessage, ReportsPayload};
+ghost use Rattle.embedding.specs.Report.{Tells};
 
 use crate::BoxPointer;
 use crate::held::Held;
-use embedding::{BatchItem, Ids, OpenError, OwningTranscoder, Report, ReportNumbers, Status, open};
+use embedding::{
+    BatchItem, Ids, OpenError, OwningTranscoder, Report, ReportNumbers, Status, numbers_of, open,
+};
 use std::alloc::Global;
 
 /// Takes a value that another thread may use next.
@@ -141,7 +144,7 @@ impl Handle {
         ensures tells { Tells (ReportsPayload self.old.held.value payload.now room.new) result numbers.new }
         ensures kept { self.new.held.value ≡ self.old.held.value }
     {
-        *numbers = self.report(alloc, payload, room).numbers();
+        *numbers = numbers_of(self.report(alloc, payload, room));
         numbers.status
     }
 
@@ -172,7 +175,7 @@ impl Handle {
         ensures tells { Tells (ReportsMessage self.old.held.value ids message.now room.new) result numbers.new }
         ensures kept { self.new.held.value ≡ self.old.held.value }
     {
-        *numbers = self.report_message(alloc, ids, message, room).numbers();
+        *numbers = numbers_of(self.report_message(alloc, ids, message, room));
         numbers.status
     }
 

@@ -3,7 +3,7 @@
 ghost use Rattle.std.specs.Prelude.{◌≡◌, Some, None, Option, true, is_some};
 ghost use Rattle.std.specs.Coded.{codes};
 ghost use Rattle.avro_types.specs.DatumCode.{datum_coded};
-ghost use Rattle.embedding.specs.Pair.{Pair};
+ghost use Rattle.spec_library.specs.Pair.{Pair};
 ghost use Rattle.transcoder_handle.specs.Held.{held_owns};
 
 use crate::BoxPointer;

@@ -9,7 +9,7 @@ use Rattle.http1.specs.Decoder.{decoder_for}
 use Rattle.http1.specs.Framing.{response_framing}
 use Rattle.http1.specs.Message.{AcceptsResponse, known_of}
 use Rattle.http1.proofs.OneParse.{body_from_completes, completes_from_body}
-use Rattle.upstream_answers.specs.Answer.{IsAnswer, limits}
+use Rattle.spec_service.specs.UpstreamAnswer.{IsAnswer, limits}
 use Rattle.upstream_answers.specs.Parts.{HasContent, IsFrontOf, IsHeadOf}
 use Rattle.upstream_answers.specs.declared.head.AnswerHead.{AnswerHead}
 use Rattle.upstream_answers.specs.declared.head.Front as fronts

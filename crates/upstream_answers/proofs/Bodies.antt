@@ -9,7 +9,7 @@ use Rattle.http1.specs.declared.decode.Decoder.{Decoder}
 use Rattle.http1.specs.declared.decode.Decoder.TheVariants.{Chunked, Length, UntilClose}
 use Rattle.http1.specs.Decoder.{AwaitsTrailers, Completes, Continues, Ends, HasNoBody, Starves, with_front}
 use Rattle.upstream_answers.specs.Parts.{HasContent}
-use Rattle.upstream_answers.specs.declared.limits.TheConstants.{MOST_CONTENT, MOST_FIELDS}
+use Rattle.spec_service.specs.declared.upstream_limits.TheConstants.{MOST_CONTENT, MOST_FIELDS}
 
 -- the fields that spans cover are no more than there is room for
 pub few_fields : (buffer : List ℕ) (headers : List HeaderSpan) (count : ℕ) (fields : List Field)

@@ -15,7 +15,7 @@ use Rattle.http1.specs.Message.{known_of}
 use Rattle.http1.specs.Text.{lf_follows_cr}
 use Rattle.http1.proofs.StrictLemmas.{response_too_long, take_front}
 use Rattle.upstream_answers.specs.Parts.{IsHeadOf, NeverHasHead, TakesHead}
-use Rattle.upstream_answers.specs.declared.limits.TheConstants.{MOST_FIELDS, MOST_HEAD}
+use Rattle.spec_service.specs.declared.upstream_limits.TheConstants.{MOST_FIELDS, MOST_HEAD}
 use Rattle.upstream_answers.proofs.Bodies.{few_fields}
 
 module _ (received : List ℕ) (headers : List HeaderSpan) (spans : ResponseSpans) (head : ResponseHead)

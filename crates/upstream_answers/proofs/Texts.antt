@@ -8,8 +8,8 @@ use Rattle.serde_json.specs.Data.{Data, null, boolean, number, string, array, ob
 use Rattle.serde_json.specs.Find.{as_str, get}
 use Rattle.gateway_bodies.specs.Members.{AreMembersOf, data_of, kept}
 use Rattle.gateway_bodies.specs.declared.members.Members.{Members}
-use Rattle.upstream_answers.specs.Content.{has_no_references, is_avro, schema_of}
-use Rattle.upstream_answers.specs.declared.fault.ContentFault.TheVariants.{HasReferences, NoSchema, NotAvro}
+use Rattle.spec_service.specs.UpstreamContent.{has_no_references, is_avro, schema_of}
+use Rattle.spec_service.specs.declared.upstream_content.ContentFault.TheVariants.{HasReferences, NoSchema, NotAvro}
 
 -- what is asked of a value is known from what is kept of it
 is_avro-kept : (o : Option Data) → is_avro (option_map kept o) ≡ is_avro o

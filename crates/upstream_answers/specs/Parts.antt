@@ -7,11 +7,11 @@ use Rattle.http1.specs.declared.framing.MethodKind.TheVariants.{Other}
 use Rattle.http1.specs.Body.{Body}
 use Rattle.http1.specs.Decoder.{Completes}
 use Rattle.http1.specs.Message.{AcceptsResponse}
-use Rattle.upstream_answers.specs.Answer.{limits}
+use Rattle.spec_service.specs.UpstreamAnswer.{limits}
 use Rattle.upstream_answers.specs.declared.head.AnswerHead.{AnswerHead}
 use Rattle.upstream_answers.specs.declared.head.Front as fronts
 use Rattle.upstream_answers.specs.declared.head.Front.TheVariants.{Head, NoHead, Part}
-use Rattle.upstream_answers.specs.declared.limits.TheConstants.{MOST_CONTENT, MOST_FIELDS}
+use Rattle.spec_service.specs.declared.upstream_limits.TheConstants.{MOST_CONTENT, MOST_FIELDS}
 
 -- the head of a response to GET with this framing, no interim one and within the limits, and the rest after it
 pub record TakesHead (received : List ℕ) (head : ResponseHead) (framing : Framing) (rest : List ℕ) : Type 0 where

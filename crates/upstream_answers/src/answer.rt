@@ -1,7 +1,7 @@
 //! The answer that bytes begin with.
 
 ghost use Rattle.std.specs.Prelude.{◌≢◌, IfErr, IfOk, List, ℕ};
-ghost use Rattle.upstream_answers.specs.Answer.{IsAnswer};
+ghost use Rattle.spec_service.specs.UpstreamAnswer.{IsAnswer};
 
 use crate::body::content_of;
 use crate::fault::AnswerFault;

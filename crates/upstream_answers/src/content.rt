@@ -6,7 +6,8 @@ ghost use Rattle.serde_json.specs.Data.{Data};
 ghost use Rattle.serde_json.specs.Find.{as_str};
 ghost use Rattle.serde_json.specs.View.{view};
 ghost use Rattle.gateway_bodies.specs.Members.{AreMembersOf, data_of};
-ghost use Rattle.upstream_answers.specs.Content.{Tells, as_text, error_code_of, has_no_references, is_avro, is_unknown, object_of, schema_of, schema_text, value_in};
+ghost use Rattle.upstream_answers.specs.Content.{Tells, error_code_of, is_unknown, value_in};
+ghost use Rattle.spec_service.specs.UpstreamContent.{as_text, has_no_references, is_avro, object_of, schema_of, schema_text};
 
 use crate::fault::ContentFault;
 use crate::limits::MOST_ERROR;

@@ -2,9 +2,9 @@
 
 ghost use Rattle.std.specs.Prelude.{◌≡◌};
 ghost use Rattle.upstream_answers.specs.declared.fault.AnswerFault.TheVariants as answers;
-ghost use Rattle.upstream_answers.specs.declared.fault.ContentFault.TheVariants as contents;
 ghost use Rattle.upstream_answers.specs.declared.fault.ReceiveFault.TheVariants as receiving;
 
+pub use spec_service::ContentFault;
 use std::alloc::AllocError;
 use thiserror::Error;
 
@@ -47,28 +47,5 @@ impl From<AllocError> for ReceiveFault {
 
     fn from(_error: AllocError) -> ReceiveFault {
         ReceiveFault::NoMemory
-    }
-}
-
-/// Why a content has no schema that this service takes.
-#[derive(Clone, Copy, Debug, PartialEq, Eq, Error)]
-pub enum ContentFault {
-    #[error("the content is no JSON object")]
-    NoJson,
-    #[error("the object has no text of a schema")]
-    NoSchema,
-    #[error("the schema is not of Avro")]
-    NotAvro,
-    #[error("the schema refers to others")]
-    HasReferences,
-    #[error("out of memory")]
-    NoMemory,
-}
-
-impl From<AllocError> for ContentFault {
-    ghost from_gives = { λ _ e. e ≡ contents.NoMemory };
-
-    fn from(_error: AllocError) -> ContentFault {
-        ContentFault::NoMemory
     }
 }

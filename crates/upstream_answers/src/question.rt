@@ -1,23 +1,13 @@
 //! What is sent to ask for the schema of an id.
 
 ghost use Rattle.std.specs.Prelude.{◌≡◌, IfOk, string_bytes};
-ghost use Rattle.upstream_answers.specs.Question.{authorization_text, question_text, request_line_text};
+ghost use Rattle.spec_service.specs.UpstreamQuestion.{authorization_text, question_text, request_line_text};
 
+pub use spec_service::Place;
 use std::alloc::{AllocError, Global};
 
 /// The content that is asked for (Confluent Schema Registry API).
 const MEDIA_TYPE: &str = "application/vnd.schemaregistry.v1+json";
-
-/// Where the registry is asked, and by whom.
-#[derive(Debug, Drop)]
-pub struct Place {
-    /// The value of the Host field, with a port where it is not that of the scheme (RFC 9110, section 7.2).
-    pub host: String,
-    /// The path before `/schemas`: empty, or beginning with `/` and not ending with it.
-    pub prefix: String,
-    /// The base64 text of `user:password`, empty where there are none (RFC 7617).
-    pub credentials: String,
-}
 
 /// Returns the field with the credentials, with the end of its line: nothing where the credentials are empty (RFC
 /// 7617, section 2).

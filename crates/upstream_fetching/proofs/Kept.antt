@@ -1,6 +1,6 @@
 -- Where a text comes from that was kept of one that was answered or kept.
 use Rattle.std.proofs.Common.{ℕ, List, Result, Ok, Err, OnOk}
-use Rattle.upstream_schemas.specs.Naming.{IsTextOf, WasAnswered, answered, kept_before}
+use Rattle.spec_service.specs.UpstreamNaming.{IsTextOf, WasAnswered, answered, kept_before}
 
 pub on-ok : {A E : Type 0} (r : Result A E) (P : Type 0) → P → OnOk r P
 on-ok (Ok x) P p = p

@@ -1,7 +1,7 @@
 -- What becomes of an id whose schema is wanted. This project's own.
 use Rattle.std.specs.Prelude.{ℕ, Bool, List, ◌||◌, nat_eq, ⊤}
 use Rattle.std.specs.List.{list_any}
-use Rattle.gateway_requests.specs.declared.fault.Fault.{Fault}
+use Rattle.spec_service.specs.declared.fault.Fault.{Fault}
 use Rattle.upstream_fetching.specs.declared.fetch_list.Asked.{Asked}
 use Rattle.upstream_fetching.specs.declared.fetch_list.Asked.TheVariants as variants
 

@@ -21,7 +21,7 @@ pub(crate) struct Failure<U: Upstream> {
 
 impl<U: Upstream> Model for Failure<U> {
     ghost use Rattle.std.specs.Prelude.{ℕ};
-    ghost use Rattle.gateway_requests.specs.declared.fault.Fault.{Fault};
+    ghost use Rattle.spec_service.specs.declared.fault.Fault.{Fault};
     ghost use Rattle.upstream_schemas.specs.Asking.{IsWhyUnheld};
 
     ghost Value = { ℕ × Fault };

@@ -69,7 +69,7 @@ fn keep_in<K: Keeper>(
 }
 
 impl<'a, R: Wait, U: Upstream, K: Keeper, B: Beginning> Upstream for KeptUpstream<'a, R, U, K, B> {
-    ghost use Rattle.upstream_schemas.specs.Naming.{IsTextOf};
+    ghost use Rattle.spec_service.specs.UpstreamNaming.{IsTextOf};
 
     ghost heard = { U.heard };
 

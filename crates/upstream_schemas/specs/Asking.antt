@@ -1,13 +1,14 @@
 -- Why the schema of an id of an upstream registry is not held. This project's own.
 use Rattle.std.specs.Prelude.{◌≡◌, ℕ, List, true, Err, ⊤}
-use Rattle.avro_schema_names.specs.declared.error.SchemaError.{SchemaError}
-use Rattle.gateway_requests.specs.declared.fault.Fault.{Fault}
-use Rattle.gateway_requests.specs.declared.fault.Fault.TheVariants as faults
-use Rattle.schema_registry.specs.Accepting.{declaration_of}
-use Rattle.upstream_answers.specs.Content.{is_unknown, schema_text}
-use Rattle.upstream_answers.specs.declared.fault.ContentFault.{ContentFault}
-use Rattle.upstream_answers.specs.declared.fault.ContentFault.TheVariants as contents
-use Rattle.upstream_schemas.specs.Naming.{IsTextOf, WasAnswered}
+use Rattle.spec_schema.specs.declared.schema_error.SchemaError.{SchemaError}
+use Rattle.spec_service.specs.declared.fault.Fault.{Fault}
+use Rattle.spec_service.specs.declared.fault.Fault.TheVariants as faults
+use Rattle.spec_registry.specs.Accepting.{declaration_of}
+use Rattle.upstream_answers.specs.Content.{is_unknown}
+use Rattle.spec_service.specs.UpstreamContent.{schema_text}
+use Rattle.spec_service.specs.declared.upstream_content.ContentFault.{ContentFault}
+use Rattle.spec_service.specs.declared.upstream_content.ContentFault.TheVariants as contents
+use Rattle.spec_service.specs.UpstreamNaming.{IsTextOf, WasAnswered}
 
 module _ (heard : List ℕ → List ℕ → Type 0) (kept : ℕ → List ℕ → Type 0) where
   -- the upstream answered that the id names no schema

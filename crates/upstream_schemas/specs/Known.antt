@@ -1,9 +1,9 @@
 -- The namings whose receipts are known. This project's own.
 use Rattle.std.specs.Prelude.{◌≡◌, ◌<◌, ℕ, List, [], ◌∷◌, ◌++◌, drop, length, take, slice_index_or, IfSome, Some}
 use Rattle.boxcar.specs.Slot.{Named}
-use Rattle.id_cells.specs.Path.{Path}
-use Rattle.schema_registry.specs.Receipt.{IsReceiptOf, Shown}
-use Rattle.upstream_schemas.specs.Naming.{IsNamed, Names, Naming}
+use Rattle.spec_registry.specs.Path.{Path}
+use Rattle.spec_registry.specs.Receipt.{IsReceiptOf, Shown}
+use Rattle.spec_service.specs.UpstreamNaming.{IsNamed, Names, Naming}
 use Rattle.upstream_schemas.specs.declared.known.KnownNaming.{KnownNaming}
 use Rattle.upstream_schemas.specs.declared.known.KnownNamings.{KnownNamings}
 use Rattle.upstream_schemas.specs.declared.limits.TheConstants.{KNOWN}

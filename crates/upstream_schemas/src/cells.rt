@@ -15,7 +15,7 @@ pub(crate) struct SharedCells<'r, U: Upstream> {
 }
 
 impl<'r, U: Upstream> Model for SharedCells<'r, U> {
-    ghost use Rattle.upstream_schemas.specs.Naming.{Names};
+    ghost use Rattle.spec_service.specs.UpstreamNaming.{Names};
 
     ghost Value = { Names };
 

@@ -1,9 +1,10 @@
 //! What the upstream registry answers for an id.
 
 ghost use Rattle.std.specs.Prelude.{◌≡◌, ◌≢◌, Err, Ok, IfErr, IfOk, string_bytes, true, ℕ};
-ghost use Rattle.upstream_answers.specs.Content.{is_unknown, schema_text};
+ghost use Rattle.upstream_answers.specs.Content.{is_unknown};
+ghost use Rattle.spec_service.specs.UpstreamContent.{schema_text};
 ghost use Rattle.upstream_schemas.specs.Asking.{IsWhyUnheld};
-ghost use Rattle.upstream_schemas.specs.Naming.{IsTextOf, WasAnswered};
+ghost use Rattle.spec_service.specs.UpstreamNaming.{IsTextOf, WasAnswered};
 
 use crate::upstream::{ExchangeFault, Upstream};
 use gateway_requests::{Fault, UpstreamFault};

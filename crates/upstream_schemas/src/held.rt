@@ -18,7 +18,7 @@ pub struct Held<U: Upstream> {
 impl<U: Upstream> Model for Held<U> {
     ghost use Rattle.std.specs.Coded.{codes};
     ghost use Rattle.avro_types.specs.DatumCode.{datum_coded};
-    ghost use Rattle.upstream_schemas.specs.Naming.{IsSchemaFor, Naming};
+    ghost use Rattle.spec_service.specs.UpstreamNaming.{IsSchemaFor, Naming};
 
     ghost Value = { Naming };
 

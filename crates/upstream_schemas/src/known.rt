@@ -1,9 +1,9 @@
 //! The namings whose receipts are known.
 
 ghost use Rattle.std.specs.Prelude.{◌≡◌, ◌<◌, ◌↔◌, IfOk, true};
-ghost use Rattle.schema_registry.specs.Receipt.{IsReceiptOf};
+ghost use Rattle.spec_registry.specs.Receipt.{IsReceiptOf};
 ghost use Rattle.upstream_schemas.specs.Known.{IsKnownNaming, IsOfOne, IsTableOf};
-ghost use Rattle.upstream_schemas.specs.Naming.{IsNamed};
+ghost use Rattle.spec_service.specs.UpstreamNaming.{IsNamed};
 ghost use Rattle.upstream_schemas.specs.declared.limits.TheConstants.{KNOWN};
 
 use crate::cells::SharedCells;

@@ -1,11 +1,11 @@
 //! The schemas that the ids of an upstream registry name.
 
 ghost use Rattle.std.specs.Prelude.{◌≡◌, ◌≢◌, Err, Ok, Some, IfErr, IfOk, IfSome, string_bytes, ℕ};
-ghost use Rattle.avro_schema_names.specs.declared.error.SchemaError.{SchemaError};
-ghost use Rattle.schema_registry.specs.Accepting.{declaration_of};
-ghost use Rattle.schema_registry.specs.Receipt.{IsReceiptOf};
+ghost use Rattle.spec_schema.specs.declared.schema_error.SchemaError.{SchemaError};
+ghost use Rattle.spec_registry.specs.Accepting.{declaration_of};
+ghost use Rattle.spec_registry.specs.Receipt.{IsReceiptOf};
 ghost use Rattle.upstream_schemas.specs.Asking.{IsWhyUnheld};
-ghost use Rattle.upstream_schemas.specs.Naming.{IsNamed, IsNamingOf, IsSchemaFor, IsTextOf};
+ghost use Rattle.spec_service.specs.UpstreamNaming.{IsNamed, IsNamingOf, IsSchemaFor, IsTextOf};
 
 use crate::cells::SharedCells;
 use crate::found::FoundSchema;
@@ -48,7 +48,7 @@ pub struct UpstreamSchemas<'r, U: Upstream> {
 
 impl<'r, U: Upstream> Model for UpstreamSchemas<'r, U> {
     ghost use Rattle.upstream_schemas.specs.Known.{IsTableOf};
-    ghost use Rattle.upstream_schemas.specs.Naming.{Names};
+    ghost use Rattle.spec_service.specs.UpstreamNaming.{Names};
 
     ghost Value = { Names };
 

@@ -1,7 +1,7 @@
 //! The upstream registry.
 
 ghost use Rattle.std.specs.Prelude.{OnOk};
-ghost use Rattle.upstream_schemas.specs.Naming.{IsTextOf};
+ghost use Rattle.spec_service.specs.UpstreamNaming.{IsTextOf};
 
 use schema_registry::KeepFault;
 

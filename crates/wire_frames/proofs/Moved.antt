@@ -3,11 +3,7 @@ use Rattle.std.proofs.Common.{◌≡◌, ℕ, ◌+◌, ◌≤◌, List, ◌++◌
 use Rattle.std.proofs.lemmas.List.{length-append, length-take, length-take-le, take-append-drop, take-append-le, take_at, take_all}
 use Rattle.std.proofs.Math.Seq.{take-append-add}
 use borrow.Rule.Slice.PartMut.{put_mid, post_of}
-
--- the first bytes of the first bytes
-pub take_take : (n m : ℕ) (xs : List ℕ) → n ≤ length (take m xs) → take n (take m xs) ≡ take n xs
-take_take n m xs few =
-    sym (ap (λ (z : List ℕ). take n z) (sym (take-append-drop m xs)) ∙ take-append-le n (take m xs) (drop m xs) few)
+use Rattle.wire_frames.specs.Laws.Plain.{take_take}
 
 -- the first bytes of a room, once some were written after the first `had`
 pub written_behind : (had k count : ℕ) (room bytes : List ℕ) → had ≤ length room → count ≤ length bytes

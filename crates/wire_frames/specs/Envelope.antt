@@ -1,30 +1,9 @@
--- Messages in the wire format (Confluent Schema Registry, "Wire format"): a magic byte 0, the id of the writer's schema
--- in four bytes, the highest first, and the payload. Which refusal comes first is this project's own.
-use Rattle.std.specs.Prelude.{◌≡◌, ◌≢◌, ◌<◌, ◌≤◌, ℕ, List, ◌∷◌, ◌++◌, length, codes, slice_index, Option, None, Some}
-use Rattle.std.specs.Int.{w32, to_be_bytes}
-use Rattle.wire_frames.specs.declared.envelope.TheConstants.{PREFIX_LENGTH}
-use Rattle.wire_frames.specs.declared.envelope.EnvelopeError.{EnvelopeError}
-use Rattle.wire_frames.specs.declared.envelope.EnvelopeError.TheVariants.{ShortEnvelope, BadMagic}
-
--- what comes before a payload
-abbrev pub prefix : ℕ → List ℕ
-prefix id = 0 ∷ to_be_bytes w32 id
-
--- the message of an id and a payload
-abbrev pub envelope : ℕ → List ℕ → List ℕ
-envelope id payload = prefix id ++ payload
-
--- why bytes are no message: they are too few, or else they begin with another byte
-abbrev pub IsNoMessage : List ℕ → EnvelopeError → Type 0
-IsNoMessage bytes ShortEnvelope = length bytes < PREFIX_LENGTH
-IsNoMessage bytes BadMagic = (PREFIX_LENGTH ≤ length bytes) × (slice_index bytes 0 ≢ 0)
+-- For a private clause: the writer that a message names.
+use Rattle.std.specs.Prelude.{◌≡◌, ℕ, List, Option, None, Some}
+use Rattle.spec_registry.specs.declared.envelope.EnvelopeError.{EnvelopeError}
+use Rattle.spec_registry.specs.Envelope.{envelope, IsNoMessage}
 
 -- the id of the writer's schema that bytes name; none where they are no message
 abbrev pub IsWriterOf : List ℕ → Option ℕ → Type 0
 IsWriterOf bytes (Some id) = (payload : List ℕ) × (bytes ≡ envelope id payload)
 IsWriterOf bytes None = (error : EnvelopeError) × IsNoMessage bytes error
-
--- the name of a refusal in answers
-abbrev pub name_of : EnvelopeError → List ℕ
-name_of ShortEnvelope = codes "ShortEnvelope"
-name_of BadMagic = codes "BadMagic"

@@ -1,40 +1,13 @@
 //! An envelope: how it is opened, and how it is begun.
 
 ghost use Rattle.std.specs.Prelude.{◌≡◌, ◌++◌, IfErr, IfOk, OnErr, OnOk};
-ghost use Rattle.wire_frames.specs.Envelope.{IsNoMessage, envelope, prefix};
+ghost use Rattle.spec_registry.specs.Envelope.{IsNoMessage, envelope, prefix};
 
+pub use spec_registry::{EnvelopeError, PREFIX_LENGTH};
 use std::alloc::AllocError;
-use thiserror::Error;
-
-/// How many bytes come before the payload: the magic byte, and the id in four.
-pub const PREFIX_LENGTH: usize = 5;
 
 /// The byte that a message begins with.
 const MAGIC_BYTE: u8 = 0;
-
-/// Why bytes are no message, as the first of these that holds. This project's own.
-#[derive(Clone, Copy, Debug, PartialEq, Eq, Error)]
-pub enum EnvelopeError {
-    #[error("a message has at least five bytes")]
-    ShortEnvelope,
-    #[error("a message begins with the byte 0")]
-    BadMagic,
-}
-
-impl EnvelopeError {
-    ghost use Rattle.std.specs.Prelude.{◌≡◌};
-    ghost use Rattle.wire_frames.specs.Envelope.{name_of};
-
-    /// Returns its name, as answers show it.
-    pub fn name(self) -> &'static str
-        ensures { result.now ≡ name_of self }
-    {
-        match self {
-            EnvelopeError::ShortEnvelope => "ShortEnvelope",
-            EnvelopeError::BadMagic => "BadMagic",
-        }
-    }
-}
 
 /// Opens a message, and returns the id of the writer's schema, and the part of the message that is its payload
 /// (Confluent wire format). The error says why the bytes are no message.

@@ -3,8 +3,9 @@
 ghost use Rattle.std.specs.Prelude.{◌≡◌, ◌<◌, ◌≤◌, ◌++◌, List, ℕ, [], IfErr, IfOk, OnErr, OnOk, length, take};
 ghost use Rattle.std.specs.Io.KnownBytes.{Keeps};
 ghost use Rattle.wire_frames.specs.Moving.{Receives};
-ghost use Rattle.wire_frames.specs.declared.envelope.TheConstants.{PREFIX_LENGTH};
-ghost use Rattle.wire_frames.specs.Envelope.{IsNoMessage, IsWriterOf, envelope};
+ghost use Rattle.spec_registry.specs.declared.envelope.TheConstants.{PREFIX_LENGTH};
+ghost use Rattle.spec_registry.specs.Envelope.{IsNoMessage, envelope};
+ghost use Rattle.wire_frames.specs.Envelope.{IsWriterOf};
 
 use crate::envelope::{EnvelopeError, PREFIX_LENGTH, open_envelope};
 use crate::read_more;

@@ -2,7 +2,8 @@
 use Rattle.std.proofs.Common.{◌≡◌, ◌≢◌, ℕ, ◌+◌, ◌≤◌, List, ◌++◌, length, drop, refl, sym, ap, ◌∙◌, arith, add_assoc}
 use Rattle.std.proofs.lemmas.List.{drop_at, drop-drop, length-append, length-drop}
 use Rattle.spec_avro.specs.declared.meter.Meter.{Meter}
-use Rattle.avro_bytes.specs.Decoding.{Complete, Decoding, Failed, Stands, map_decoding, ◌>>=◌}
+use Rattle.spec_decoding.specs.Decoding.{Complete, Decoding, Failed, ◌>>=◌}
+use Rattle.avro_bytes.specs.Decoding.{Stands, map_decoding}
 use Rattle.spec_avro.specs.Defect.{Defect, Malformed, Need}
 use Rattle.avro_bytes.specs.Fault.{HasDefect, failing}
 use Rattle.spec_avro.specs.Fault.{shifted}

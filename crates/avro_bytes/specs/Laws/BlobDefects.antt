@@ -4,11 +4,11 @@ use Rattle.std.proofs.lemmas.List.{length-append}
 use Rattle.spec_avro.specs.declared.meter.Meter.{Meter}
 use Rattle.spec_avro.specs.Blob.{FaultyFixed}
 use Rattle.avro_bytes.specs.Blob.{content_at, fixed_at}
-use Rattle.avro_bytes.specs.Decoding.{Complete, Decoding, Failed, ◌>>=◌}
+use Rattle.spec_decoding.specs.Decoding.{Complete, Decoding, Failed, ◌>>=◌}
 use Rattle.spec_avro.specs.Defect.{Defect, Malformed, Need}
 use Rattle.spec_avro.specs.Fault.{FaultyContent, FaultyLength, ContentNeedsMore, shifted}
 use Rattle.avro_bytes.specs.Fault.{HasDefect, failing}
-use Rattle.avro_bytes.specs.Length.{length_at}
+use Rattle.spec_decoding.specs.LengthDecoding.{length_at}
 use Rattle.avro_bytes.specs.Laws.Binds.{defect_after, defect_as, defect_then, failing_then, rest_after}
 use Rattle.avro_bytes.specs.Laws.Blobs.{sized_content}
 use Rattle.avro_bytes.specs.Laws.Fixeds.{fixed_defect, fixed_told}

@@ -5,10 +5,11 @@ use Rattle.spec_avro.specs.declared.limits.TheConstants.{MOST_CONTENT}
 use Rattle.spec_avro.specs.declared.meter.Meter.{Meter}
 use Rattle.spec_avro.specs.Blob.{IsBlob}
 use Rattle.avro_bytes.specs.Blob.{content_at, fixed_at}
-use Rattle.avro_bytes.specs.Decoding.{Complete, Decoding, Failed, Stands, ◌>>=◌}
+use Rattle.spec_decoding.specs.Decoding.{Complete, Decoding, Failed, ◌>>=◌}
+use Rattle.avro_bytes.specs.Decoding.{Stands}
 use Rattle.spec_avro.specs.Defect.{Defect, Need}
 use Rattle.spec_avro.specs.Length.{SpellsLength}
-use Rattle.avro_bytes.specs.Length.{length_at}
+use Rattle.spec_decoding.specs.LengthDecoding.{length_at}
 use Rattle.spec_avro.specs.Number.{IsNumber, long_limit}
 use Rattle.avro_bytes.specs.Laws.Binds.{rest_after, stands_within, then_complete, then_steady}
 use Rattle.avro_bytes.specs.Laws.Fixeds.{fixed_complete, fixed_sound, fixed_steady}

@@ -3,17 +3,18 @@ use Rattle.std.proofs.Common.{◌≡◌, ℕ, zero, suc, ◌+◌, ◌<◌, ◌�
 use Rattle.std.proofs.lemmas.List.{length-append}
 use Rattle.spec_avro.specs.declared.malformed.MalformedKind.TheVariants.{BadBlock}
 use Rattle.spec_avro.specs.declared.meter.Meter.{Meter}
-use Rattle.avro_bytes.specs.BlockDecoding.{after_count, is_met, item_at, next_block, next_item, sized_block}
+use Rattle.spec_decoding.specs.BlockDecoding.{after_count, is_met, item_at, next_block, next_item, sized_block}
 use Rattle.spec_avro.specs.BlockFault.{BeginsBlock, FaultyHead, IsFaultySize, IsRefusedFirst}
 use Rattle.spec_avro.specs.Blocks.{IsHead}
-use Rattle.avro_bytes.specs.Decoding.{Complete, Decoding, Failed, Stands, ◌>>=◌}
+use Rattle.spec_decoding.specs.Decoding.{Complete, Decoding, Failed, ◌>>=◌}
+use Rattle.avro_bytes.specs.Decoding.{Stands}
 use Rattle.spec_avro.specs.Defect.{Defect, Malformed}
 use Rattle.spec_avro.specs.Fault.{FaultyNumber, shifted}
 use Rattle.avro_bytes.specs.Fault.{HasDefect, failing}
 use Rattle.spec_avro.specs.Meter.{RefusesItem}
 use Rattle.spec_avro.specs.Number.{IsNumber, long_limit}
-use Rattle.avro_bytes.specs.NumberDecoding.{number_at}
-use Rattle.avro_bytes.specs.Walk.{Walk}
+use Rattle.spec_decoding.specs.NumberDecoding.{number_at}
+use Rattle.spec_decoding.specs.Walk.{Walk}
 use Rattle.avro_bytes.specs.Walking.{IsMet}
 use Rattle.avro_bytes.specs.Laws.Binds.{defect_after, defect_as, defect_then, failing_shifted, failing_then, rest_after}
 use Rattle.avro_bytes.specs.Laws.BlockSteps.{size_is}

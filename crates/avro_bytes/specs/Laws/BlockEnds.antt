@@ -1,12 +1,13 @@
 -- Where a walk over blocks ends, their end is spelled; and a walk begins before all of the items.
 use Rattle.std.proofs.Common.{◌≡◌, ℕ, zero, suc, List, [], ◌∷◌, ◌++◌, length, None, ℤ, pos, negsuc, refl, sym, subst, ◌∙◌, arith, lit<}
 use Rattle.spec_avro.specs.declared.meter.Meter.{Meter}
-use Rattle.avro_bytes.specs.BlockDecoding.{after_count, is_met, item_at, next_block, next_item, sized_block}
+use Rattle.spec_decoding.specs.BlockDecoding.{after_count, is_met, item_at, next_block, next_item, sized_block}
 use Rattle.spec_avro.specs.Blocks.{IsBlocks, IsItems, joined}
-use Rattle.avro_bytes.specs.Decoding.{Complete, Stands}
+use Rattle.spec_decoding.specs.Decoding.{Complete}
+use Rattle.avro_bytes.specs.Decoding.{Stands}
 use Rattle.spec_avro.specs.Number.{IsNumber, long_limit}
-use Rattle.avro_bytes.specs.NumberDecoding.{number_at}
-use Rattle.avro_bytes.specs.Walk.{Walk, first_walk}
+use Rattle.spec_decoding.specs.NumberDecoding.{number_at}
+use Rattle.spec_decoding.specs.Walk.{Walk, first_walk}
 use Rattle.avro_bytes.specs.Walking.{Remains}
 use Rattle.avro_bytes.specs.Laws.Binds.{complete_is, then_complete}
 use Rattle.avro_bytes.specs.Laws.BlockSteps.{as_stands, none_left, size_is}

@@ -3,12 +3,13 @@ use Rattle.std.proofs.Common.{◌≡◌, ℕ, zero, suc, ◌+◌, ◌-◌, List,
 use Rattle.std.proofs.lemmas.Bool.{eqb-true}
 use Rattle.std.proofs.lemmas.List.{length-append}
 use Rattle.spec_avro.specs.declared.meter.Meter.{Meter}
-use Rattle.avro_bytes.specs.BlockDecoding.{after_count, has_size, is_met, item_at, next_block, next_item, sized_block}
+use Rattle.spec_decoding.specs.BlockDecoding.{after_count, has_size, is_met, item_at, next_block, next_item, sized_block}
 use Rattle.spec_avro.specs.Blocks.{IsHead, IsItems, SizeIs, joined}
-use Rattle.avro_bytes.specs.Decoding.{Complete, Stands}
+use Rattle.spec_decoding.specs.Decoding.{Complete}
+use Rattle.avro_bytes.specs.Decoding.{Stands}
 use Rattle.spec_avro.specs.Number.{IsNumber, long_limit}
-use Rattle.avro_bytes.specs.NumberDecoding.{number_at}
-use Rattle.avro_bytes.specs.Walk.{Walk}
+use Rattle.spec_decoding.specs.NumberDecoding.{number_at}
+use Rattle.spec_decoding.specs.Walk.{Walk}
 use Rattle.avro_bytes.specs.Walking.{IsMet, Leads, Remains}
 use Rattle.avro_bytes.specs.Laws.Binds.{complete_is, rest_after, then_complete}
 use Rattle.avro_bytes.specs.Laws.Numbers.{number_sound}

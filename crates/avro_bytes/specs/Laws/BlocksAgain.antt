@@ -4,14 +4,14 @@ use Rattle.std.proofs.lemmas.Bool.{eq-eqb}
 use Rattle.std.proofs.lemmas.List.{length-append}
 use Rattle.spec_avro.specs.declared.malformed.MalformedKind.TheVariants.{BadBlock}
 use Rattle.spec_avro.specs.declared.meter.Meter.{Meter}
-use Rattle.avro_bytes.specs.BlockDecoding.{after_count, has_size, is_met, item_at, next_block, next_item, sized_block}
+use Rattle.spec_decoding.specs.BlockDecoding.{after_count, has_size, is_met, item_at, next_block, next_item, sized_block}
 use Rattle.spec_avro.specs.Blocks.{IsBlocks, IsHead, IsItems, SizeIs, joined}
-use Rattle.avro_bytes.specs.Decoding.{Complete, Decoding, Failed, ◌>>=◌}
+use Rattle.spec_decoding.specs.Decoding.{Complete, Decoding, Failed, ◌>>=◌}
 use Rattle.spec_avro.specs.Defect.{Malformed}
-use Rattle.avro_bytes.specs.Meter.{closed_blocks}
+use Rattle.spec_decoding.specs.Opening.{closed_blocks}
 use Rattle.spec_avro.specs.Number.{IsNumber, long_limit}
-use Rattle.avro_bytes.specs.NumberDecoding.{number_at}
-use Rattle.avro_bytes.specs.Walk.{Walk}
+use Rattle.spec_decoding.specs.NumberDecoding.{number_at}
+use Rattle.spec_decoding.specs.Walk.{Walk}
 use Rattle.avro_bytes.specs.Walking.{Comes, IsMet, Remains}
 use Rattle.avro_bytes.specs.Laws.Numbers.{number_again, pos_is}
 

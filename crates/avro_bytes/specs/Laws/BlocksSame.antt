@@ -3,14 +3,14 @@ use Rattle.std.proofs.Common.{◌≡◌, ◌≢◌, ℕ, zero, suc, ◌+◌, ◌
 use Rattle.std.proofs.lemmas.List.{append_cancel_left, length-replicate, take_at}
 use Rattle.spec_avro.specs.declared.malformed.MalformedKind.TheVariants.{BadBlock}
 use Rattle.spec_avro.specs.declared.meter.Meter.{Meter}
-use Rattle.avro_bytes.specs.BlockDecoding.{after_count, is_met, item_at, next_block, next_item, sized_block}
-use Rattle.avro_bytes.specs.Decoding.{Complete, Decoding, Failed}
+use Rattle.spec_decoding.specs.BlockDecoding.{after_count, is_met, item_at, next_block, next_item, sized_block}
+use Rattle.spec_decoding.specs.Decoding.{Complete, Decoding, Failed}
 use Rattle.spec_avro.specs.Defect.{Malformed, Need}
-use Rattle.avro_bytes.specs.Meter.{closed_blocks}
+use Rattle.spec_decoding.specs.Opening.{closed_blocks}
 use Rattle.spec_avro.specs.Meter.{start}
 use Rattle.spec_avro.specs.Number.{IsNumber, long_limit}
-use Rattle.avro_bytes.specs.NumberDecoding.{number_at}
-use Rattle.avro_bytes.specs.Walk.{Walk}
+use Rattle.spec_decoding.specs.NumberDecoding.{number_at}
+use Rattle.spec_decoding.specs.Walk.{Walk}
 use Rattle.avro_bytes.specs.Walking.{Comes, Remains}
 use Rattle.avro_bytes.specs.Laws.Binds.{complete_is, stands_within, then_steady}
 use Rattle.avro_bytes.specs.Laws.BlocksAgain.{end_complete}

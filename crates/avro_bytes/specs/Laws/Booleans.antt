@@ -6,9 +6,10 @@ use Rattle.std.proofs.lemmas.List.{drop_at, drop_all, drop_more, drop-append-le}
 use Rattle.spec_avro.specs.declared.meter.Meter.{Meter}
 use Rattle.spec_avro.specs.declared.malformed.MalformedKind.TheVariants.{BadBoolean}
 use Rattle.spec_avro.specs.Boolean.{IsBoolean, IsAboveOne, FaultyBoolean, boolean_byte}
-use Rattle.avro_bytes.specs.Boolean.{boolean_at, boolean_of}
+use Rattle.spec_decoding.specs.BooleanDecoding.{boolean_at, boolean_of}
 use Rattle.avro_bytes.specs.Laws.Binds.{complete_is}
-use Rattle.avro_bytes.specs.Decoding.{Complete, Failed, Stands}
+use Rattle.spec_decoding.specs.Decoding.{Complete, Failed}
+use Rattle.avro_bytes.specs.Decoding.{Stands}
 use Rattle.spec_avro.specs.Defect.{Defect, Malformed, Need}
 use Rattle.avro_bytes.specs.Fault.{HasDefect, failing}
 

@@ -5,9 +5,9 @@ use Rattle.std.proofs.lemmas.List.{drop_at}
 use Rattle.spec_avro.specs.declared.meter.Meter.{Meter}
 use Rattle.spec_avro.specs.declared.malformed.MalformedKind.TheVariants.{BadNumber}
 use Rattle.spec_avro.specs.Number.{Limit}
-use Rattle.avro_bytes.specs.NumberDecoding.{Front, Ends, TooGreat, Open, longer, number_front, number_of, number_at}
+use Rattle.spec_decoding.specs.NumberDecoding.{Front, Ends, TooGreat, Open, longer, number_front, number_of, number_at}
 use Rattle.spec_avro.specs.Defect.{Defect, Malformed, Need}
-use Rattle.avro_bytes.specs.Decoding.{Failed}
+use Rattle.spec_decoding.specs.Decoding.{Failed}
 use Rattle.spec_avro.specs.Fault.{AllHigh, FaultyNumber, NumberNeedsMore, IsTooGreat}
 use Rattle.avro_bytes.specs.Fault.{HasDefect, failing}
 

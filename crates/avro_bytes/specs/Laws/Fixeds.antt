@@ -6,7 +6,8 @@ use Rattle.spec_avro.specs.declared.meter.Meter.{Meter}
 use Rattle.spec_avro.specs.Blob.{IsFixed, FaultyFixed}
 use Rattle.avro_bytes.specs.Blob.{fixed_at}
 use Rattle.avro_bytes.specs.Laws.Binds.{complete_is}
-use Rattle.avro_bytes.specs.Decoding.{Complete, Failed, Stands}
+use Rattle.spec_decoding.specs.Decoding.{Complete, Failed}
+use Rattle.avro_bytes.specs.Decoding.{Stands}
 use Rattle.spec_avro.specs.Defect.{Defect, Malformed, Need}
 use Rattle.avro_bytes.specs.Fault.{HasDefect, failing}
 

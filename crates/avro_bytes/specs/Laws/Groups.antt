@@ -9,7 +9,7 @@ use Rattle.std.proofs.Math.Numerals.{sub-one}
 use Rattle.std.proofs.lemmas.List.{length-drop, length-take, get_or-drop}
 use Rattle.std.proofs.lemmas.Nat.{pow-add, shl_whole}
 use Rattle.spec_avro.specs.Number.{groups_sum}
-use Rattle.avro_bytes.specs.NumberDecoding.{Front, Ends, TooGreat, Open, longer, number_front}
+use Rattle.spec_decoding.specs.NumberDecoding.{Front, Ends, TooGreat, Open, longer, number_front}
 
 abbrev pub prefixed : List ℕ → Front → Front
 prefixed seen (Ends bytes) = Ends (seen ++ bytes)

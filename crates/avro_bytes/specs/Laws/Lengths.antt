@@ -4,14 +4,15 @@ use Rattle.std.proofs.lemmas.Bool.{cases_lt, le-ltb, lt-ltb, ltb-false}
 use Rattle.spec_avro.specs.declared.malformed.MalformedKind.TheVariants.{BadLength}
 use Rattle.spec_avro.specs.declared.limits.TheConstants.{MOST_CONTENT}
 use Rattle.spec_avro.specs.declared.meter.Meter.{Meter}
-use Rattle.avro_bytes.specs.Decoding.{Complete, Decoding, Failed, Stands, ◌>>=◌}
+use Rattle.spec_decoding.specs.Decoding.{Complete, Decoding, Failed, ◌>>=◌}
+use Rattle.avro_bytes.specs.Decoding.{Stands}
 use Rattle.spec_avro.specs.Defect.{Defect, Malformed, Need}
 use Rattle.spec_avro.specs.Fault.{FaultyLength, FaultyNumber, IsBadLength, IsLength}
 use Rattle.avro_bytes.specs.Fault.{HasDefect, failing}
 use Rattle.spec_avro.specs.Length.{SpellsLength}
-use Rattle.avro_bytes.specs.Length.{length_at, length_of}
+use Rattle.spec_decoding.specs.LengthDecoding.{length_at, length_of}
 use Rattle.spec_avro.specs.Number.{IsNumber, long_limit}
-use Rattle.avro_bytes.specs.NumberDecoding.{number_at}
+use Rattle.spec_decoding.specs.NumberDecoding.{number_at}
 use Rattle.avro_bytes.specs.Laws.Binds.{complete_is, defect_as, defect_then, failing_then, then_complete, then_steady}
 use Rattle.avro_bytes.specs.Laws.Defects.{number_defect, number_told}
 use Rattle.avro_bytes.specs.Laws.Numbers.{number_again, number_sound, number_steady}

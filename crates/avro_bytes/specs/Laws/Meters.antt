@@ -3,12 +3,12 @@ use Rattle.std.proofs.Common.{◌≡◌, ℕ, ◌+◌, ◌<◌, ◌≤◌, Ok, E
 use Rattle.std.specs.Prelude.{nat_le}
 use Rattle.std.proofs.lemmas.Bool.{leb-true, leb-false, le-leb, lt-leb}
 use Rattle.spec_avro.specs.declared.meter.Meter.{Meter}
-use Rattle.avro_bytes.specs.declared.fault.Fault.TheVariants as fault
+use Rattle.spec_decoding.specs.declared.fault.Fault.TheVariants as fault
 use Rattle.spec_avro.specs.declared.malformed.MalformedKind.{MalformedKind}
 use Rattle.spec_avro.specs.declared.malformed.MalformedKind.TheVariants.{TooDeep, TooMany}
-use Rattle.avro_bytes.specs.Meter.{opened_record, opened_item, opened_blocks}
+use Rattle.spec_decoding.specs.Opening.{opened_record, opened_item, opened_blocks}
 use Rattle.spec_avro.specs.Meter.{OpensRecord, OpensItem, OpensBlocks, RefusesRecord, RefusesItem, RefusesBlocks}
-use Rattle.avro_bytes.specs.Decoding.{Decoding, Failed, inside}
+use Rattle.spec_decoding.specs.Decoding.{Decoding, Failed, inside}
 use Rattle.spec_avro.specs.Defect.{Defect, Malformed}
 use Rattle.avro_bytes.specs.Fault.{HasDefect, failing}
 use Rattle.spec_avro.specs.declared.limits.TheConstants.{MOST_DEPTH, MOST_UNITS}

@@ -5,10 +5,11 @@ use Rattle.std.proofs.lemmas.List.{drop_at, drop-append-le}
 use Rattle.std.proofs.Math.Numerals.{sub-one}
 use Rattle.spec_avro.specs.declared.meter.Meter.{Meter}
 use Rattle.spec_avro.specs.Number.{groups_sum, IsChained, zigzag, Limit, IsNumber}
-use Rattle.avro_bytes.specs.NumberDecoding.{Front, Ends, TooGreat, Open, longer, number_front, from_zigzag, number_of, number_at}
+use Rattle.spec_decoding.specs.NumberDecoding.{Front, Ends, TooGreat, Open, longer, number_front, from_zigzag, number_of, number_at}
 use Rattle.avro_bytes.specs.Laws.Binds.{complete_is}
 use Rattle.avro_bytes.specs.Laws.Groups.{ends_is, front_below, longer_ends}
-use Rattle.avro_bytes.specs.Decoding.{Complete, Failed, Stands}
+use Rattle.spec_decoding.specs.Decoding.{Complete, Failed}
+use Rattle.avro_bytes.specs.Decoding.{Stands}
 use Rattle.spec_avro.specs.Defect.{Need}
 
 pub record Sound (left top : ℕ) (bytes ends : List ℕ) : Type 0 where

@@ -4,13 +4,14 @@ use Rattle.std.proofs.lemmas.Bool.{lt-ltb, le-ltb, cases_lt, ltb-true}
 use Rattle.spec_avro.specs.declared.meter.Meter.{Meter}
 use Rattle.spec_avro.specs.declared.malformed.MalformedKind.{MalformedKind}
 use Rattle.spec_avro.specs.Number.{IsNumber, int_limit}
-use Rattle.avro_bytes.specs.NumberDecoding.{number_at}
+use Rattle.spec_decoding.specs.NumberDecoding.{number_at}
 use Rattle.avro_bytes.specs.Laws.Binds.{complete_is, defect_as, defect_then, failing_then, then_complete, then_steady}
 use Rattle.avro_bytes.specs.Laws.Defects.{number_defect, number_told}
 use Rattle.avro_bytes.specs.Laws.Numbers.{number_again, number_one_form, number_sound, number_steady, pos_is}
 use Rattle.spec_avro.specs.Position.{IsPosition, IsBadPosition, FaultyPosition, SpellsPosition}
-use Rattle.avro_bytes.specs.Position.{position_at, position_of}
-use Rattle.avro_bytes.specs.Decoding.{Complete, Decoding, Failed, Stands, ◌>>=◌}
+use Rattle.spec_decoding.specs.PositionDecoding.{position_at, position_of}
+use Rattle.spec_decoding.specs.Decoding.{Complete, Decoding, Failed, ◌>>=◌}
+use Rattle.avro_bytes.specs.Decoding.{Stands}
 use Rattle.spec_avro.specs.Defect.{Defect, Malformed, Need}
 use Rattle.spec_avro.specs.Fault.{FaultyNumber}
 use Rattle.avro_bytes.specs.Fault.{HasDefect, failing}

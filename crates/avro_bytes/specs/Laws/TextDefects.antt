@@ -6,7 +6,7 @@ use Rattle.spec_avro.specs.declared.malformed.MalformedKind.{MalformedKind}
 use Rattle.spec_avro.specs.declared.malformed.MalformedKind.TheVariants.{BadText}
 use Rattle.spec_avro.specs.declared.meter.Meter.{Meter}
 use Rattle.avro_bytes.specs.Blob.{content_at}
-use Rattle.avro_bytes.specs.Decoding.{Complete, Decoding, Failed, ◌>>=◌}
+use Rattle.spec_decoding.specs.Decoding.{Complete, Decoding, Failed, ◌>>=◌}
 use Rattle.spec_avro.specs.Defect.{Defect, Malformed, Need}
 use Rattle.spec_avro.specs.Fault.{FaultyContent, FaultyText, IsBadText}
 use Rattle.avro_bytes.specs.Fault.{HasDefect, failing}

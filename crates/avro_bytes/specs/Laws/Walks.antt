@@ -1,18 +1,18 @@
 -- One step of a walk over blocks: where it leads, and its meter, which has one unit more at an item and one level less
 -- after the blocks.
 use Rattle.std.proofs.Common.{◌≡◌, ℕ, zero, suc, ◌+◌, ◌<◌, List, Option, Some, None, Result, Ok, Err, Bool, true, false, cond, ℤ, pos, negsuc, refl, sym, ap, subst, ◌∙◌, arith, lit<}
-use Rattle.avro_bytes.specs.declared.fault.Fault.{Fault}
+use Rattle.spec_decoding.specs.declared.fault.Fault.{Fault}
 use Rattle.spec_avro.specs.declared.malformed.MalformedKind.TheVariants.{BadBlock}
 use Rattle.spec_avro.specs.declared.limits.TheConstants.{MOST_UNITS}
 use Rattle.spec_avro.specs.declared.meter.Meter.{Meter}
-use Rattle.avro_bytes.specs.BlockDecoding.{after_count, is_met, item_at, next_block, next_item, sized_block}
-use Rattle.avro_bytes.specs.Decoding.{Complete, Failed, inside}
+use Rattle.spec_decoding.specs.BlockDecoding.{after_count, is_met, item_at, next_block, next_item, sized_block}
+use Rattle.spec_decoding.specs.Decoding.{Complete, Failed, inside}
 use Rattle.spec_avro.specs.Defect.{Malformed}
 use Rattle.spec_avro.specs.Meter.{OpensItem}
-use Rattle.avro_bytes.specs.Meter.{closed_blocks, opened_item}
+use Rattle.spec_decoding.specs.Opening.{closed_blocks, opened_item}
 use Rattle.spec_avro.specs.Number.{long_limit}
-use Rattle.avro_bytes.specs.NumberDecoding.{number_at}
-use Rattle.avro_bytes.specs.Walk.{Walk}
+use Rattle.spec_decoding.specs.NumberDecoding.{number_at}
+use Rattle.spec_decoding.specs.Walk.{Walk}
 use Rattle.avro_bytes.specs.Laws.Binds.{complete_is, then_complete}
 use Rattle.avro_bytes.specs.Laws.Meters.{item_was_opened}
 use Rattle.avro_bytes.specs.Laws.Numbers.{number_sound, number_some}

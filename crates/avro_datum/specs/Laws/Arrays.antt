@@ -14,7 +14,8 @@ use Rattle.avro_datum.specs.Laws.Blocks.{SpellBlocks, around_told, blocks_comple
 use Rattle.avro_datum.specs.Laws.Decoders.{Deeper, HasFault, IsComplete, IsSound, IsSteady}
 use Rattle.avro_datum.specs.Laws.ItemFaults.{AtFault}
 use Rattle.avro_datum.specs.Laws.Parts.{map_steady, mapped, stands_as}
-use Rattle.avro_bytes.specs.Decoding.{Complete, Failed, Stands, map_decoding}
+use Rattle.spec_decoding.specs.Decoding.{Complete, Failed}
+use Rattle.avro_bytes.specs.Decoding.{Stands, map_decoding}
 use Rattle.spec_avro.specs.Defect.{Defect, Need}
 use Rattle.avro_bytes.specs.Fault.{HasDefect, failing}
 use Rattle.spec_avro.specs.Fault.{shifted}

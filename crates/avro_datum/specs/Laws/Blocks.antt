@@ -1,11 +1,11 @@
 -- Arrays and maps as a whole: one level, and the items inside.
 use Rattle.std.proofs.Common.{◌≡◌, ◌≢◌, ℕ, suc, ◌+◌, ◌-◌, ◌≤◌, List, ◌++◌, length, drop, Result, refl, ap, ◌∙◌, arith}
 use Rattle.spec_avro.specs.declared.meter.Meter.{Meter}
-use Rattle.avro_bytes.specs.declared.fault.Fault.{Fault}
-use Rattle.avro_bytes.specs.Walk.{first_walk}
+use Rattle.spec_decoding.specs.declared.fault.Fault.{Fault}
+use Rattle.spec_decoding.specs.Walk.{first_walk}
 use Rattle.spec_avro.specs.Blocks.{IsItems}
 use Rattle.spec_avro.specs.Meter.{Counts, OpensBlocks, RefusesBlocks}
-use Rattle.avro_bytes.specs.Meter.{closed_blocks, opened_blocks}
+use Rattle.spec_decoding.specs.Opening.{closed_blocks, opened_blocks}
 use Rattle.avro_bytes.specs.Laws.Binds.{defect_as}
 use Rattle.avro_bytes.specs.Laws.BlockEnds.{first_remains}
 use Rattle.avro_bytes.specs.Laws.Meters.{blocks_defect, blocks_opened_again, blocks_were_opened, same_meter}
@@ -18,7 +18,8 @@ use Rattle.avro_datum.specs.Laws.ItemsFaulty.{items_defect}
 use Rattle.avro_datum.specs.Laws.ItemsPassed.{ReadsComplete}
 use Rattle.avro_datum.specs.Laws.ItemsTold.{blocks_told, item_fault_told, items_complete}
 use Rattle.avro_datum.specs.Laws.Parts.{inside_complete, inside_steady, stands_as}
-use Rattle.avro_bytes.specs.Decoding.{Complete, Failed, Stands, inside}
+use Rattle.spec_decoding.specs.Decoding.{Complete, Failed, inside}
+use Rattle.avro_bytes.specs.Decoding.{Stands}
 use Rattle.spec_avro.specs.Defect.{Defect, Need}
 use Rattle.avro_bytes.specs.Fault.{HasDefect, failing}
 use Rattle.spec_avro.specs.Fault.{shifted}

@@ -3,10 +3,10 @@ use Rattle.std.proofs.Common.{◌≡◌, ℕ, zero, suc, ◌+◌, ◌-◌, List,
 use Rattle.spec_avro.specs.declared.malformed.MalformedKind.TheVariants.{BadEnum}
 use Rattle.spec_avro.specs.declared.meter.Meter.{Meter}
 use Rattle.avro_bytes.specs.Blob.{fixed_at, content_at}
-use Rattle.avro_bytes.specs.Boolean.{boolean_at}
+use Rattle.spec_decoding.specs.BooleanDecoding.{boolean_at}
 use Rattle.spec_avro.specs.Meter.{Counts}
 use Rattle.spec_avro.specs.Number.{int_limit, long_limit}
-use Rattle.avro_bytes.specs.NumberDecoding.{number_at}
+use Rattle.spec_decoding.specs.NumberDecoding.{number_at}
 use Rattle.avro_bytes.specs.Text.{text_at}
 use Rattle.avro_bytes.specs.Laws.Blobs.{blob_complete}
 use Rattle.avro_bytes.specs.Laws.Booleans.{boolean_complete}
@@ -17,7 +17,7 @@ use Rattle.spec_avro.specs.Node.{Node, NullNode, BooleanNode, IntNode, LongNode,
 use Rattle.spec_avro.specs.WellFormed.{is_union}
 use Rattle.spec_avro.specs.Datum.{Datum, NullDatum, BooleanDatum, IntDatum, LongDatum, BytesDatum, TextDatum, FixedDatum, EnumDatum, ArrayDatum, MapDatum, UnionDatum, RecordDatum}
 use Rattle.avro_datum.specs.Decoding.{Decoder, datum_at, kind_at, node_at, plain_at}
-use Rattle.avro_bytes.specs.Position.{position_at}
+use Rattle.spec_decoding.specs.PositionDecoding.{position_at}
 use Rattle.spec_avro.specs.Spelling.{Spells, depth_of, units_of}
 use Rattle.avro_datum.specs.Laws.Arrays.{array_complete, spell_each}
 use Rattle.avro_datum.specs.Laws.Decoders.{Deeper, IsComplete}
@@ -27,7 +27,8 @@ use Rattle.avro_datum.specs.Laws.Parts.{counts_nothing}
 use Rattle.avro_bytes.specs.Laws.Positions.{position_again}
 use Rattle.avro_datum.specs.Laws.Records.{record_complete}
 use Rattle.avro_datum.specs.Laws.Unions.{union_complete}
-use Rattle.avro_bytes.specs.Decoding.{Complete, Failed, map_decoding}
+use Rattle.spec_decoding.specs.Decoding.{Complete, Failed}
+use Rattle.avro_bytes.specs.Decoding.{map_decoding}
 use Rattle.spec_avro.specs.Defect.{Need}
 use Rattle.spec_avro.specs.declared.limits.TheConstants.{MOST_DEPTH}
 

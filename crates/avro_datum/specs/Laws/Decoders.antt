@@ -7,7 +7,8 @@ use Rattle.spec_avro.specs.Datum.{Datum}
 use Rattle.avro_datum.specs.Decoding.{Decoder}
 use Rattle.spec_avro.specs.FaultyDatum.{FaultyDatum}
 use Rattle.spec_avro.specs.Spelling.{Spells, depth_of, units_of}
-use Rattle.avro_bytes.specs.Decoding.{Complete, Failed, Stands}
+use Rattle.spec_decoding.specs.Decoding.{Complete, Failed}
+use Rattle.avro_bytes.specs.Decoding.{Stands}
 use Rattle.spec_avro.specs.Defect.{Defect, Need}
 use Rattle.avro_bytes.specs.Fault.{HasDefect, failing}
 use Rattle.spec_avro.specs.declared.limits.TheConstants.{MOST_DEPTH}

@@ -14,7 +14,7 @@ use Rattle.avro_datum.specs.Laws.Maps.{map_defect}
 use Rattle.avro_datum.specs.Laws.RecordDefects.{record_has_defect}
 use Rattle.avro_datum.specs.Laws.Sound.{node_sound}
 use Rattle.avro_datum.specs.Laws.Unions.{union_defect}
-use Rattle.avro_bytes.specs.Decoding.{Decoding, Failed}
+use Rattle.spec_decoding.specs.Decoding.{Decoding, Failed}
 use Rattle.spec_avro.specs.Defect.{Need}
 use Rattle.avro_bytes.specs.Fault.{HasDefect}
 use Rattle.spec_avro.specs.declared.limits.TheConstants.{MOST_DEPTH}

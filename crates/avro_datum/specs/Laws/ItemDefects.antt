@@ -1,20 +1,20 @@
 -- Where reading the items of an array or a map gives none, the fault that it reports is there.
 use Rattle.std.proofs.Common.{◌≡◌, ℕ, zero, suc, ◌+◌, ◌-◌, ◌<◌, ◌≤◌, List, [], ◌∷◌, ◌++◌, length, drop, Option, Some, None, ℤ, pos, negsuc, refl, sym, ap, subst, ◌∙◌, append_assoc, arith, lit<}
 use Rattle.std.proofs.lemmas.List.{append-nil, length-append}
-use Rattle.avro_bytes.specs.Walk.{Walk}
+use Rattle.spec_decoding.specs.Walk.{Walk}
 use Rattle.spec_avro.specs.declared.meter.Meter.{Meter}
-use Rattle.avro_bytes.specs.BlockDecoding.{after_count, item_at, next_block, sized_block}
+use Rattle.spec_decoding.specs.BlockDecoding.{after_count, item_at, next_block, sized_block}
 use Rattle.spec_avro.specs.Blocks.{IsHead, joined, AreBlocks, SizeIs}
-use Rattle.avro_bytes.specs.Decoding.{Complete, Stands}
+use Rattle.spec_decoding.specs.Decoding.{Complete}
+use Rattle.avro_bytes.specs.Decoding.{Stands}
 use Rattle.spec_avro.specs.Meter.{Counts, OpensItem}
 use Rattle.spec_avro.specs.Number.{IsNumber, long_limit}
-use Rattle.avro_bytes.specs.NumberDecoding.{number_at}
+use Rattle.spec_decoding.specs.NumberDecoding.{number_at}
 use Rattle.avro_bytes.specs.Laws.Binds.{rest_after, complete_is, then_complete}
 use Rattle.avro_bytes.specs.Laws.Numbers.{number_sound}
-use Rattle.avro_bytes.specs.Laws.Walks.{item_takes}
+use Rattle.avro_bytes.specs.Laws.Walks.{item_takes, some_is}
 use Rattle.spec_avro.specs.ItemFault.{SpellEach, deepest, units_all}
 use Rattle.avro_bytes.specs.Laws.BlocksAgain.{headed}
-use Rattle.avro_datum.specs.Laws.Parts.{some_is}
 use Rattle.spec_avro.specs.declared.limits.TheConstants.{MOST_DEPTH}
 
 -- ---- the head of a block that is passed

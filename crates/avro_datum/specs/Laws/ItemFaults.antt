@@ -1,7 +1,7 @@
 -- The first fault of the items of an array or a map: what reading reports is there.
 use Rattle.std.proofs.Common.{◌≡◌, ℕ, suc, ◌+◌, ◌-◌, ◌<◌, ◌⊎◌, List, [], ◌∷◌, ◌++◌, length, drop, Option, ℤ, refl, sym, ap, subst, ◌∙◌, append_assoc, arith, inl, inr}
 use Rattle.std.proofs.lemmas.List.{append-nil, length-append}
-use Rattle.avro_bytes.specs.Walk.{Walk, first_walk}
+use Rattle.spec_decoding.specs.Walk.{Walk, first_walk}
 use Rattle.spec_avro.specs.declared.meter.Meter.{Meter}
 use Rattle.spec_avro.specs.Blocks.{IsHead, joined, AreBlocks, SizeIs}
 use Rattle.avro_bytes.specs.Walking.{IsMet}

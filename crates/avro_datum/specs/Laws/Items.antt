@@ -1,8 +1,8 @@
 -- The items of an array or a map: what is read is spelled so, and what is decided stays so.
 use Rattle.std.proofs.Common.{◌≡◌, ◌≢◌, ℕ, zero, suc, ◌+◌, ◌-◌, ◌<◌, ◌≤◌, List, [], ◌∷◌, ◌++◌, length, Option, Some, None, refl, sym, ap, subst, ◌∙◌, arith}
-use Rattle.avro_bytes.specs.Walk.{Walk}
+use Rattle.spec_decoding.specs.Walk.{Walk}
 use Rattle.spec_avro.specs.declared.meter.Meter.{Meter}
-use Rattle.avro_bytes.specs.BlockDecoding.{next_item}
+use Rattle.spec_decoding.specs.BlockDecoding.{next_item}
 use Rattle.avro_bytes.specs.Walking.{Remains, Leads}
 use Rattle.spec_avro.specs.Meter.{Counts}
 use Rattle.avro_bytes.specs.Laws.Binds.{complete_is, stands_within, then_complete, then_steady}
@@ -13,7 +13,8 @@ use Rattle.avro_bytes.specs.Laws.Walks.{end_meter, item_meter}
 use Rattle.avro_datum.specs.ItemDecoding.{Reader, items_at, items_from}
 use Rattle.spec_avro.specs.ItemFault.{SpellEach, deepest, units_all}
 use Rattle.avro_datum.specs.Laws.Parts.{map_steady, mapped, stands_as}
-use Rattle.avro_bytes.specs.Decoding.{Complete, Failed, Stands, map_decoding}
+use Rattle.spec_decoding.specs.Decoding.{Complete, Failed}
+use Rattle.avro_bytes.specs.Decoding.{Stands, map_decoding}
 use Rattle.spec_avro.specs.Defect.{Need}
 use Rattle.spec_avro.specs.declared.limits.TheConstants.{MOST_DEPTH, MOST_UNITS}
 

@@ -1,20 +1,19 @@
 -- Where reading the items of an array or a map comes to one more, what was reached goes on with it.
 use Rattle.std.proofs.Common.{◌≡◌, ℕ, zero, suc, ◌+◌, List, [], ◌++◌, length, drop, Some, sym, ap, subst, ◌∙◌, append_assoc, arith, inl, inr, refl}
 use Rattle.std.proofs.lemmas.List.{append-nil, length-append}
-use Rattle.avro_bytes.specs.Walk.{Walk}
+use Rattle.spec_decoding.specs.Walk.{Walk}
 use Rattle.spec_avro.specs.declared.meter.Meter.{Meter}
-use Rattle.avro_bytes.specs.BlockDecoding.{next_item}
+use Rattle.spec_decoding.specs.BlockDecoding.{next_item}
 use Rattle.avro_bytes.specs.Walking.{IsMet}
 use Rattle.spec_avro.specs.Blocks.{joined, IsHead}
-use Rattle.avro_bytes.specs.Decoding.{Complete}
+use Rattle.spec_decoding.specs.Decoding.{Complete}
 use Rattle.avro_bytes.specs.Laws.Binds.{rest_after}
 use Rattle.avro_bytes.specs.Laws.BlockDefects.{bad_block_told, decide_met}
-use Rattle.avro_bytes.specs.Laws.Walks.{item_takes}
+use Rattle.avro_bytes.specs.Laws.Walks.{item_takes, some_is}
 use Rattle.spec_avro.specs.ItemFault.{SpellEach}
 use Rattle.avro_datum.specs.Laws.ItemDefects.{block_heads}
 use Rattle.avro_datum.specs.Laws.ItemFaults.{Advanced, InBlock, Reached, closed}
 use Rattle.avro_bytes.specs.Laws.BlocksAgain.{headed, met_end}
-use Rattle.avro_datum.specs.Laws.Parts.{some_is}
 
 module _ {A : Type 0} (Spelled : A → List ℕ → Type 0) (deep units : A → ℕ) where
   module _ (all : List ℕ) (start : ℕ) (m0 : Meter) where

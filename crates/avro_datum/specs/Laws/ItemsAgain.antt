@@ -1,12 +1,13 @@
 -- Items that are spelled in blocks are read one after another, from the first walk on.
 use Rattle.std.proofs.Common.{◌≡◌, ℕ, suc, ◌+◌, List, [], ◌∷◌, ◌++◌, length, Option, ℤ, refl, sym, ap, subst, append_assoc, arith}
 use Rattle.spec_avro.specs.declared.meter.Meter.{Meter}
-use Rattle.avro_bytes.specs.BlockDecoding.{item_at, next_block}
+use Rattle.spec_decoding.specs.BlockDecoding.{item_at, next_block}
 use Rattle.spec_avro.specs.Meter.{Counts}
 use Rattle.avro_bytes.specs.Laws.BlocksAgain.{head_again, headed}
 use Rattle.spec_avro.specs.Blocks.{IsHead}
 use Rattle.spec_avro.specs.ItemFault.{SpellEach, deepest, units_all}
-use Rattle.avro_bytes.specs.Decoding.{Complete, Decoding, Failed, map_decoding}
+use Rattle.spec_decoding.specs.Decoding.{Complete, Decoding, Failed}
+use Rattle.avro_bytes.specs.Decoding.{map_decoding}
 
 -- ---- values after others
 

@@ -1,10 +1,10 @@
 -- Where reading the items of an array or a map gives none, what it reports is their first fault.
 use Rattle.std.proofs.Common.{◌≡◌, ℕ, zero, suc, ◌+◌, ◌-◌, ◌<◌, List, [], ◌∷◌, ◌++◌, length, drop, Option, Some, None, ℤ, pos, refl, sym, ap, subst, ◌∙◌, append_assoc, arith, inl, inr}
 use Rattle.std.proofs.lemmas.List.{length-append}
-use Rattle.avro_bytes.specs.Walk.{Walk, first_walk}
+use Rattle.spec_decoding.specs.Walk.{Walk, first_walk}
 use Rattle.spec_avro.specs.declared.malformed.MalformedKind.TheVariants.{BadBlock}
 use Rattle.spec_avro.specs.declared.meter.Meter.{Meter}
-use Rattle.avro_bytes.specs.BlockDecoding.{next_block, next_item}
+use Rattle.spec_decoding.specs.BlockDecoding.{next_block, next_item}
 use Rattle.spec_avro.specs.BlockFault.{FaultyHead}
 use Rattle.avro_bytes.specs.Walking.{IsMet}
 use Rattle.spec_avro.specs.Blocks.{joined, IsHead}
@@ -16,7 +16,8 @@ use Rattle.spec_avro.specs.ItemFault.{IsBadBlock, IsRefusedItem}
 use Rattle.avro_datum.specs.Laws.ItemFaults.{AtFault, InBlock, Reached, begins, closed, reached_more}
 use Rattle.avro_datum.specs.Laws.Items.{ReadsSound}
 use Rattle.avro_datum.specs.Laws.ItemsAdvanced.{advance}
-use Rattle.avro_bytes.specs.Decoding.{Complete, map_decoding}
+use Rattle.spec_decoding.specs.Decoding.{Complete}
+use Rattle.avro_bytes.specs.Decoding.{map_decoding}
 use Rattle.spec_avro.specs.Defect.{Defect, Malformed}
 use Rattle.avro_bytes.specs.Fault.{HasDefect}
 use Rattle.spec_avro.specs.Fault.{shifted}

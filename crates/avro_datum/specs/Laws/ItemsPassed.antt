@@ -1,13 +1,14 @@
 -- Reading passes over items that are spelled: within a block, over whole blocks, and into another.
 use Rattle.std.proofs.Common.{◌≡◌, ℕ, zero, suc, ◌+◌, ◌-◌, ◌<◌, ◌≤◌, List, [], ◌∷◌, ◌++◌, length, Option, Some, Result, ℤ, refl, sym, ap, subst, ◌∙◌, append_assoc, arith}
 use Rattle.std.proofs.lemmas.List.{length-append}
-use Rattle.avro_bytes.specs.Walk.{Walk}
-use Rattle.avro_bytes.specs.declared.fault.Fault.{Fault}
+use Rattle.spec_decoding.specs.Walk.{Walk}
+use Rattle.spec_decoding.specs.declared.fault.Fault.{Fault}
 use Rattle.spec_avro.specs.declared.meter.Meter.{Meter}
-use Rattle.avro_bytes.specs.BlockDecoding.{item_at, next_block, next_item}
+use Rattle.spec_decoding.specs.BlockDecoding.{item_at, next_block, next_item}
 use Rattle.spec_avro.specs.Blocks.{IsHead, joined, AreBlocks, SizeIs}
 use Rattle.avro_bytes.specs.Walking.{IsMet}
-use Rattle.avro_bytes.specs.Decoding.{Complete, ◌>>=◌, map_decoding, inside}
+use Rattle.spec_decoding.specs.Decoding.{Complete, ◌>>=◌, inside}
+use Rattle.avro_bytes.specs.Decoding.{map_decoding}
 use Rattle.spec_avro.specs.Meter.{Counts, OpensItem}
 use Rattle.avro_bytes.specs.Laws.Meters.{item_opened_again}
 use Rattle.avro_datum.specs.ItemDecoding.{Reader, items_at, items_from}

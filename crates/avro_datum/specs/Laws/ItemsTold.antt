@@ -1,15 +1,15 @@
 -- Items that are spelled in blocks are read to the end, and where they are not, the first fault is reported.
 use Rattle.std.proofs.Common.{◌≡◌, ℕ, zero, suc, ◌+◌, ◌-◌, ◌<◌, List, [], ◌∷◌, ◌++◌, length, Option, Some, None, Result, ℤ, pos, refl, sym, ap, subst, ◌∙◌, append_assoc, arith, inl, inr}
 use Rattle.std.proofs.lemmas.List.{append-nil, length-append}
-use Rattle.avro_bytes.specs.Walk.{Walk, first_walk}
-use Rattle.avro_bytes.specs.declared.fault.Fault.{Fault}
+use Rattle.spec_decoding.specs.Walk.{Walk, first_walk}
+use Rattle.spec_decoding.specs.declared.fault.Fault.{Fault}
 use Rattle.spec_avro.specs.declared.malformed.MalformedKind.TheVariants.{BadBlock}
 use Rattle.spec_avro.specs.declared.meter.Meter.{Meter}
-use Rattle.avro_bytes.specs.BlockDecoding.{item_at, next_block, next_item}
+use Rattle.spec_decoding.specs.BlockDecoding.{item_at, next_block, next_item}
 use Rattle.spec_avro.specs.Blocks.{IsBlocks, IsItems, joined, AreBlocks, IsHead}
 use Rattle.avro_bytes.specs.Walking.{IsMet, Remains}
 use Rattle.spec_avro.specs.Meter.{Counts}
-use Rattle.avro_bytes.specs.Meter.{closed_blocks}
+use Rattle.spec_decoding.specs.Opening.{closed_blocks}
 use Rattle.spec_avro.specs.Number.{IsNumber64}
 use Rattle.avro_bytes.specs.Laws.Binds.{failing_map, failing_shifted, failing_then}
 use Rattle.avro_bytes.specs.Laws.BlockDefects.{bad_block_told, head_told}
@@ -20,7 +20,8 @@ use Rattle.avro_datum.specs.ItemDecoding.{Reader, items_at, items_from}
 use Rattle.spec_avro.specs.ItemFault.{AtItem, Begins, FaultyBlocks, IsFaultyHead, IsRefusedItem, SpellEach, deepest, units_all}
 use Rattle.avro_datum.specs.Laws.ItemsAgain.{head_again_at, in_two}
 use Rattle.avro_datum.specs.Laws.ItemsPassed.{Passes, ReadsComplete, pass_block, pass_blocks, pass_then}
-use Rattle.avro_bytes.specs.Decoding.{Complete, Failed, inside, map_decoding, ◌>>=◌}
+use Rattle.spec_decoding.specs.Decoding.{Complete, Failed, inside, ◌>>=◌}
+use Rattle.avro_bytes.specs.Decoding.{map_decoding}
 use Rattle.spec_avro.specs.Defect.{Defect, Malformed}
 use Rattle.avro_bytes.specs.Fault.{failing}
 use Rattle.spec_avro.specs.Fault.{shifted}

@@ -5,10 +5,10 @@ use Rattle.spec_avro.specs.declared.meter.Meter.{Meter}
 use Rattle.spec_avro.specs.Blob.{FaultyFixed}
 use Rattle.avro_bytes.specs.Blob.{fixed_at, content_at}
 use Rattle.spec_avro.specs.Boolean.{FaultyBoolean}
-use Rattle.avro_bytes.specs.Boolean.{boolean_at}
+use Rattle.spec_decoding.specs.BooleanDecoding.{boolean_at}
 use Rattle.spec_avro.specs.Meter.{Counts}
 use Rattle.spec_avro.specs.Number.{int_limit, long_limit}
-use Rattle.avro_bytes.specs.NumberDecoding.{number_at}
+use Rattle.spec_decoding.specs.NumberDecoding.{number_at}
 use Rattle.avro_bytes.specs.Text.{text_at}
 use Rattle.avro_bytes.specs.Laws.Binds.{defect_as, defect_map, complete_is}
 use Rattle.avro_bytes.specs.Laws.Blobs.{blob_sound, content_steady}
@@ -23,11 +23,12 @@ use Rattle.spec_avro.specs.Datum.{Datum, NullDatum, BooleanDatum, IntDatum, Long
 use Rattle.avro_datum.specs.Decoding.{IsLeaf, leaf_at}
 use Rattle.spec_avro.specs.FaultyDatum.{FaultyDatum, faulty, faulty_boolean, faulty_int, faulty_long, faulty_bytes, faulty_text, faulty_fixed, faulty_enum}
 use Rattle.spec_avro.specs.Position.{FaultyPosition}
-use Rattle.avro_bytes.specs.Position.{position_at}
+use Rattle.spec_decoding.specs.PositionDecoding.{position_at}
 use Rattle.spec_avro.specs.Spelling.{Spells, depth_of, units_of}
 use Rattle.avro_datum.specs.Laws.Parts.{counts_none, map_steady, mapped, nowhere, stands_as}
 use Rattle.avro_bytes.specs.Laws.Positions.{position_defect, position_sound, position_steady}
-use Rattle.avro_bytes.specs.Decoding.{Complete, Decoding, Failed, Stands, map_decoding}
+use Rattle.spec_decoding.specs.Decoding.{Complete, Decoding, Failed}
+use Rattle.avro_bytes.specs.Decoding.{Stands, map_decoding}
 use Rattle.spec_avro.specs.Defect.{Defect, Need}
 use Rattle.spec_avro.specs.Fault.{FaultyContent, FaultyNumber, FaultyText}
 use Rattle.avro_bytes.specs.Fault.{HasDefect}

@@ -21,7 +21,8 @@ use Rattle.avro_datum.specs.Laws.ItemFaults.{AtFault}
 use Rattle.avro_datum.specs.Laws.Items.{ReadsSound}
 use Rattle.avro_datum.specs.Laws.ItemsPassed.{ReadsComplete}
 use Rattle.avro_datum.specs.Laws.Parts.{joined_stands, map_steady, mapped, stands_as}
-use Rattle.avro_bytes.specs.Decoding.{Complete, Decoding, Failed, Stands, map_decoding, ◌>>=◌}
+use Rattle.spec_decoding.specs.Decoding.{Complete, Decoding, Failed, ◌>>=◌}
+use Rattle.avro_bytes.specs.Decoding.{Stands, map_decoding}
 use Rattle.spec_avro.specs.Defect.{Defect, Need}
 use Rattle.spec_avro.specs.Fault.{FaultyText, shifted}
 use Rattle.avro_bytes.specs.Fault.{HasDefect, failing}

@@ -1,7 +1,7 @@
 -- No spelling begins another, and each spells one datum.
 use Rattle.std.proofs.Common.{◌≡◌, ℕ, ◌+◌, List, [], ◌∷◌, ◌++◌, length, drop, Option, Some, refl, sym, ap, subst, ◌∙◌, append_assoc, slice_get}
 use Rattle.std.proofs.lemmas.List.{drop_at}
-use Rattle.avro_bytes.specs.Walk.{Walk, first_walk}
+use Rattle.spec_decoding.specs.Walk.{Walk, first_walk}
 use Rattle.avro_bytes.specs.Walking.{Remains, Comes}
 use Rattle.spec_avro.specs.Number.{int_limit, long_limit}
 use Rattle.avro_bytes.specs.Laws.BlockEnds.{remains_first}

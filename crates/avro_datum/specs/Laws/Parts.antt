@@ -2,13 +2,15 @@
 use Rattle.std.proofs.Common.{◌≡◌, ◌≢◌, ℕ, List, [], ◌++◌, drop, Some, Result, Ok, Err, refl, sym, ap, ◌∙◌, append_assoc, arith}
 use Rattle.std.proofs.lemmas.List.{length-append}
 use Rattle.spec_avro.specs.declared.meter.Meter.{Meter}
-use Rattle.avro_bytes.specs.declared.fault.Fault.{Fault}
-use Rattle.avro_bytes.specs.declared.fault.Fault.TheVariants as fault
+use Rattle.spec_decoding.specs.declared.fault.Fault.{Fault}
+use Rattle.spec_decoding.specs.declared.fault.Fault.TheVariants as fault
 use Rattle.spec_avro.specs.Meter.{Counts}
 use Rattle.avro_bytes.specs.Laws.Binds.{rest_after, complete_is}
 use Rattle.avro_bytes.specs.Laws.Meters.{same_meter}
-use Rattle.avro_bytes.specs.Decoding.{Complete, Decoding, Failed, Stands, inside, map_decoding}
+use Rattle.spec_decoding.specs.Decoding.{Complete, Decoding, Failed, inside}
+use Rattle.avro_bytes.specs.Decoding.{Stands, map_decoding}
 use Rattle.spec_avro.specs.Defect.{Malformed, Need}
+use Rattle.avro_bytes.specs.Laws.Walks.{some_is}
 
 pub counts_none : (m after : Meter) → m ≡ after → Counts 0 0 m after
 counts_none m after e = record { deep = omega arith; many = omega arith; same_depth = sym (ap (λ (x : Meter). x.depth) e); counted = sym (ap (λ (x : Meter). x.units) e) ∙ omega arith }
@@ -36,9 +38,6 @@ inside_steady (Ok m) f g h c = h m refl c
 inside_steady (Err fault.Need) f g h c = refl
 inside_steady (Err (fault.Malformed kind at)) f g h c = refl
 inside_steady (Err fault.NoMemory) f g h c = refl
-
-pub some_is : {A : Type 0} {x y : A} → Some x ≡ Some y → x ≡ y
-some_is e = cc
 
 -- ---- places
 

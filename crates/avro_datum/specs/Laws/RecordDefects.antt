@@ -2,8 +2,8 @@
 use Rattle.std.proofs.Common.{◌≡◌, ℕ, ◌+◌, ◌-◌, List, [], ◌∷◌, ◌++◌, length, drop, Some, Result, refl, sym, ap, subst, ◌∙◌, append_assoc, arith, slice_get, suc}
 use Rattle.std.proofs.lemmas.List.{length-append}
 use Rattle.spec_avro.specs.declared.meter.Meter.{Meter}
-use Rattle.avro_bytes.specs.declared.fault.Fault.{Fault}
-use Rattle.avro_bytes.specs.Decoding.{Decoding, Complete, ◌>>=◌, inside}
+use Rattle.spec_decoding.specs.declared.fault.Fault.{Fault}
+use Rattle.spec_decoding.specs.Decoding.{Decoding, Complete, ◌>>=◌, inside}
 use Rattle.spec_avro.specs.Defect.{Defect}
 use Rattle.avro_bytes.specs.Fault.{HasDefect, failing}
 use Rattle.spec_avro.specs.Meter.{OpensRecord}

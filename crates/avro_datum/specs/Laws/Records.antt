@@ -2,9 +2,9 @@
 use Rattle.std.proofs.Common.{◌≡◌, ◌≢◌, ℕ, ◌+◌, ◌-◌, ◌≤◌, List, [], ◌∷◌, ◌++◌, length, Some, Result, Ok, refl, sym, ap, subst, ◌∙◌, append_assoc, arith, slice_get, suc}
 use Rattle.std.proofs.lemmas.List.{length-append}
 use Rattle.spec_avro.specs.declared.meter.Meter.{Meter}
-use Rattle.avro_bytes.specs.declared.fault.Fault.{Fault}
+use Rattle.spec_decoding.specs.declared.fault.Fault.{Fault}
 use Rattle.spec_avro.specs.Meter.{Counts}
-use Rattle.avro_bytes.specs.Meter.{opened_record}
+use Rattle.spec_decoding.specs.Opening.{opened_record}
 use Rattle.avro_bytes.specs.Laws.Binds.{complete_is, stands_within, then_complete, then_steady}
 use Rattle.avro_bytes.specs.Laws.Meters.{opened_again, same_meter, was_opened}
 use Rattle.spec_avro.specs.Node.{Node, Names, FieldNode, RecordNode}
@@ -13,7 +13,8 @@ use Rattle.avro_datum.specs.Decoding.{Decoder, closed_record, fields_at, record_
 use Rattle.spec_avro.specs.Spelling.{Spells, SpellsFields, depth_of, depth_of_data, units_of, units_of_data}
 use Rattle.avro_datum.specs.Laws.Decoders.{Deeper, IsComplete, IsSound, IsSteady}
 use Rattle.avro_datum.specs.Laws.Parts.{counts_none, counts_nothing, inside_complete, inside_steady, joined_stands, nowhere, stands_as}
-use Rattle.avro_bytes.specs.Decoding.{Complete, Decoding, Failed, Stands, inside, ◌>>=◌}
+use Rattle.spec_decoding.specs.Decoding.{Complete, Decoding, Failed, inside, ◌>>=◌}
+use Rattle.avro_bytes.specs.Decoding.{Stands}
 use Rattle.spec_avro.specs.Defect.{Need}
 use Rattle.spec_avro.specs.declared.limits.TheConstants.{MOST_DEPTH}
 

@@ -14,7 +14,8 @@ use Rattle.avro_datum.specs.Laws.Leaves.{leaf_sound}
 use Rattle.avro_datum.specs.Laws.Maps.{map_sound}
 use Rattle.avro_datum.specs.Laws.Records.{record_sound}
 use Rattle.avro_datum.specs.Laws.Unions.{union_sound}
-use Rattle.avro_bytes.specs.Decoding.{Complete, Failed, Stands}
+use Rattle.spec_decoding.specs.Decoding.{Complete, Failed}
+use Rattle.avro_bytes.specs.Decoding.{Stands}
 use Rattle.spec_avro.specs.Defect.{Need}
 use Rattle.spec_avro.specs.declared.limits.TheConstants.{MOST_DEPTH}
 

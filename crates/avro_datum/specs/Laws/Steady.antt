@@ -12,7 +12,7 @@ use Rattle.avro_datum.specs.Laws.Maps.{map_is_steady}
 use Rattle.avro_datum.specs.Laws.Records.{record_steady}
 use Rattle.avro_datum.specs.Laws.Sound.{node_sound}
 use Rattle.avro_datum.specs.Laws.Unions.{union_steady}
-use Rattle.avro_bytes.specs.Decoding.{Decoding, Failed}
+use Rattle.spec_decoding.specs.Decoding.{Decoding, Failed}
 use Rattle.spec_avro.specs.Defect.{Need}
 use Rattle.spec_avro.specs.declared.limits.TheConstants.{MOST_DEPTH}
 

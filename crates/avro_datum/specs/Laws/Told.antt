@@ -4,10 +4,10 @@ use Rattle.std.proofs.lemmas.List.{length-append}
 use Rattle.spec_avro.specs.declared.malformed.MalformedKind.TheVariants.{BadEnum}
 use Rattle.spec_avro.specs.declared.meter.Meter.{Meter}
 use Rattle.avro_bytes.specs.Blob.{fixed_at, content_at}
-use Rattle.avro_bytes.specs.Boolean.{boolean_at}
-use Rattle.avro_bytes.specs.Walk.{first_walk}
+use Rattle.spec_decoding.specs.BooleanDecoding.{boolean_at}
+use Rattle.spec_decoding.specs.Walk.{first_walk}
 use Rattle.spec_avro.specs.Number.{int_limit, long_limit}
-use Rattle.avro_bytes.specs.NumberDecoding.{number_at}
+use Rattle.spec_decoding.specs.NumberDecoding.{number_at}
 use Rattle.spec_avro.specs.Text.{IsText}
 use Rattle.avro_bytes.specs.Text.{text_at}
 use Rattle.avro_bytes.specs.Laws.Binds.{failing_map, failing_shifted, failing_then}
@@ -23,7 +23,7 @@ use Rattle.spec_avro.specs.Datum.{Datum, BooleanDatum, IntDatum, LongDatum, Byte
 use Rattle.avro_datum.specs.Decoding.{Decoder, array_of, closed_record, datum_at, fields_at, kind_at, map_of, node_at, pair_at, plain_at}
 use Rattle.spec_avro.specs.FaultyDatum.{FaultyDatum, FaultyKind, faulty, faulty_boolean, faulty_int, faulty_long, faulty_bytes, faulty_text, faulty_fixed, faulty_enum, faulty_branch, faulty_member, refused_array, refused_map, faulty_array, faulty_item, faulty_map, faulty_key, faulty_value, refused_record, faulty_record, no_node, no_member}
 use Rattle.avro_datum.specs.ItemDecoding.{items_at, steps_left}
-use Rattle.avro_bytes.specs.Position.{position_at}
+use Rattle.spec_decoding.specs.PositionDecoding.{position_at}
 use Rattle.avro_datum.specs.Laws.Arrays.{array_told, item_told}
 use Rattle.avro_datum.specs.Laws.Complete.{node_complete}
 use Rattle.avro_datum.specs.Laws.Decoders.{Deeper, IsComplete, TellsFault}
@@ -33,7 +33,8 @@ use Rattle.avro_datum.specs.Laws.Maps.{map_told, pair_told}
 use Rattle.avro_bytes.specs.Laws.Positions.{position_told}
 use Rattle.avro_datum.specs.Laws.RecordDefects.{record_told}
 use Rattle.avro_datum.specs.Laws.Unions.{branch_told, member_told, no_member_told}
-use Rattle.avro_bytes.specs.Decoding.{Complete, Decoding, Failed, map_decoding, ◌>>=◌}
+use Rattle.spec_decoding.specs.Decoding.{Complete, Decoding, Failed, ◌>>=◌}
+use Rattle.avro_bytes.specs.Decoding.{map_decoding}
 use Rattle.spec_avro.specs.Defect.{Defect, Need}
 use Rattle.spec_avro.specs.Fault.{FaultyText, shifted}
 use Rattle.avro_bytes.specs.Fault.{failing}

@@ -12,12 +12,13 @@ use Rattle.spec_avro.specs.Datum.{Datum, UnionDatum}
 use Rattle.avro_datum.specs.Decoding.{Decoder, member_at, union_at}
 use Rattle.spec_avro.specs.FaultyDatum.{FaultyDatum, faulty as is_faulty, faulty_branch, faulty_member, no_member}
 use Rattle.spec_avro.specs.Position.{FaultyPosition, SpellsPosition}
-use Rattle.avro_bytes.specs.Position.{position_at}
+use Rattle.spec_decoding.specs.PositionDecoding.{position_at}
 use Rattle.spec_avro.specs.Spelling.{Spells, depth_of, units_of}
 use Rattle.avro_datum.specs.Laws.Decoders.{IsSound, IsSteady}
 use Rattle.avro_datum.specs.Laws.Parts.{map_steady, mapped}
 use Rattle.avro_bytes.specs.Laws.Positions.{position_again, position_defect, position_sound, position_steady, position_told}
-use Rattle.avro_bytes.specs.Decoding.{Complete, Decoding, Failed, Stands, map_decoding, ◌>>=◌}
+use Rattle.spec_decoding.specs.Decoding.{Complete, Decoding, Failed, ◌>>=◌}
+use Rattle.avro_bytes.specs.Decoding.{Stands, map_decoding}
 use Rattle.spec_avro.specs.Defect.{Defect, Need}
 use Rattle.avro_bytes.specs.Fault.{HasDefect, failing}
 use Rattle.spec_avro.specs.Fault.{shifted}

@@ -1,7 +1,7 @@
 //! A caller of `schema_registry`.
 
 ghost use Rattle.std.specs.Prelude.{◌≡◌, IfOk, string_bytes};
-ghost use Rattle.schema_registry.specs.Accepting.{compacted};
+ghost use Rattle.spec_registry.specs.Accepting.{compacted};
 
 use schema_registry::{Refusal, SharedRegistry};
 use std::sync::Wait;

@@ -1,7 +1,7 @@
 //! A caller of `avro_schema`.
 
 ghost use Rattle.std.specs.Prelude.{◌≡◌, ◌≢◌, Err, IfErr, IfOk, List, Ok, length};
-ghost use Rattle.avro_schema.specs.Schema.{schema_of};
+ghost use Rattle.spec_schema.specs.Schema.{schema_of};
 ghost use Rattle.spec_avro.specs.Node.{Node};
 
 use avro_schema::{Schema, SchemaError};

@@ -1,9 +1,9 @@
 //! A caller of `session_pool`.
 
 ghost use Rattle.std.specs.Prelude.{◌≡◌, ◌≤◌, IfSome, vec_len};
-ghost use Rattle.avro_bytes.specs.Outcome.{outcome_of};
+ghost use Rattle.spec_avro.specs.Outcome.{outcome_of};
 ghost use Rattle.spec_avro.specs.PayloadOutcome.{IsOutcome};
-ghost use Rattle.schema_registry.specs.Receipt.{IsReceiptOf};
+ghost use Rattle.spec_registry.specs.Receipt.{IsReceiptOf};
 ghost use Rattle.session_pool.specs.Seats.{Rests, RestsWorker};
 
 use avro_bytes::Outcome;

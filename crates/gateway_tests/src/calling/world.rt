@@ -1,10 +1,10 @@
 //! A caller of `session_core`.
 
 ghost use Rattle.std.specs.Prelude.{IfSome};
-ghost use Rattle.session_core.specs.Event.{Begin, Publish};
-ghost use Rattle.session_core.specs.Happening.{Happens};
-ghost use Rattle.session_core.specs.World.{World as Seen};
-ghost use Rattle.session_core.specs.declared.reply.EventReply.TheVariants.{Done, SessionIs};
+ghost use Rattle.spec_sessions.specs.Event.{Begin, Publish};
+ghost use Rattle.spec_sessions.specs.Happening.{Happens};
+ghost use Rattle.spec_sessions.specs.World.{World as Seen};
+ghost use Rattle.spec_sessions.specs.declared.reply.EventReply.TheVariants.{Done, SessionIs};
 
 use session_core::{Event, EventReply, Programs, World};
 

@@ -137,7 +137,7 @@ module _ (W R : List Node) (gs : List FieldNode) where
 other_place : (n j : ℕ) → (n == j) ≡ false → n ≡ j → ⊥
 other_place n j e same = grind (arith, nat_tests, e, same)
 
-set_other : {X : Type 0} (xs : List X) (i j : ℕ) (x : X) → (i ≡ j → ⊥) → slice_get (slice_set xs i x) j ≡ slice_get xs j
+pub set_other : {X : Type 0} (xs : List X) (i j : ℕ) (x : X) → (i ≡ j → ⊥) → slice_get (slice_set xs i x) j ≡ slice_get xs j
 set_other [] i j x h = refl
 set_other (y ∷ xs) zero zero x h = absurd (h refl)
 set_other (y ∷ xs) zero (suc j) x h = refl

@@ -2,15 +2,16 @@
 
 ghost use Rattle.std.specs.Prelude.{◌++◌, [], ◌∷◌, IfErr, IfOk, IsTrue, OnErr, OnOk};
 ghost use Rattle.schema_registry.specs.Command.{command_of};
-ghost use Rattle.schema_registry.specs.Storing.{IsFoundAfter, IsOfFile};
+ghost use Rattle.spec_registry.specs.Storing.{IsFoundAfter};
+ghost use Rattle.schema_registry.specs.Storing.{IsOfFile};
 
 use super::KeptRegistry;
 use super::opening::{StartFault, Started};
 use crate::command::Command;
-use crate::refusal::Refusal;
 use crate::registry::Unwatched;
 use crate::reply::Reply;
 use registry_store::CommandStore;
+use spec_registry::Refusal;
 use sqlite_disk::Crash;
 use std::alloc::Global;
 

@@ -1,22 +1,22 @@
 //! Setting and reading levels.
 
 ghost use Rattle.std.specs.Prelude.{◌≡◌, ◌≢◌, ◌∷◌, [], ◌++◌, Some, IfErr, IfSome, OnOk, OnErr, option_map, string_bytes};
-ghost use Rattle.schema_registry.specs.Accepting.{registry_after};
+ghost use Rattle.spec_registry.specs.Accepting.{registry_after};
 ghost use Rattle.schema_registry.specs.Answer.{Gives, unless_refused};
-ghost use Rattle.schema_registry.specs.Answers.{Grows, answer_to};
-ghost use Rattle.schema_registry.specs.Command.{SetLevelCommand};
-ghost use Rattle.schema_registry.specs.Lists.{level_of};
-ghost use Rattle.schema_registry.specs.Reply.{LevelReply};
+ghost use Rattle.spec_registry.specs.Answers.{Grows, answer_to};
+ghost use Rattle.spec_registry.specs.Command.{SetLevelCommand};
+ghost use Rattle.spec_registry.specs.Lists.{level_of};
+ghost use Rattle.spec_registry.specs.Reply.{LevelReply};
 
 use super::Registry;
 use crate::history::History;
 use crate::level::Level;
 use crate::limits::MOST_LEVELS;
-use crate::refusal::Refusal;
 use crate::reply::Reply;
 use crate::room::has_no_room;
 use crate::subject::is_subject;
 use schema_registry_maps::{put, set_for};
+use spec_registry::Refusal;
 
 impl Registry {
     /// Returns the level of a subject, which is its own or else the global one; without a subject the global one.

@@ -1,17 +1,19 @@
 //! Registering a schema.
 
 ghost use Rattle.std.specs.Prelude.{◌≡◌, ◌<◌, ◌≢◌, ◌↔◌, ◌≤◌, [], ◌∷◌, ◌++◌, Ok, Err, Some, None, true, false, IfErr, IfOk, IsTrue, MatchResult, OnOk, OnErr, length, option_map, string_bytes};
-ghost use Rattle.avro_schema_names.specs.declared.error.SchemaError.{SchemaError};
+ghost use Rattle.spec_schema.specs.declared.schema_error.SchemaError.{SchemaError};
 ghost use Rattle.spec_avro.specs.declared.limits.TheConstants.{MOST_TEXT};
-ghost use Rattle.avro_schema.specs.Schema.{Declaration};
-ghost use Rattle.schema_registry.specs.declared.limits.TheConstants.{MOST_SCHEMAS};
-ghost use Rattle.schema_registry.specs.Accepting.{declaration_of, id_for, registry_after};
-ghost use Rattle.schema_registry.specs.Answer.{Answer, AreSafe, Gives, IsAnswer, where_declared};
-ghost use Rattle.schema_registry.specs.Answers.{AreAccepted, GivesId, Grows, answer_to, is_full, pairs_of};
-ghost use Rattle.schema_registry.specs.Command.{RegisterCommand, command_of, subject_in};
+ghost use Rattle.spec_schema.specs.Schema.{Declaration};
+ghost use Rattle.spec_registry.specs.declared.limits.TheConstants.{MOST_SCHEMAS};
+ghost use Rattle.spec_registry.specs.Accepting.{declaration_of, id_for, registry_after};
+ghost use Rattle.spec_registry.specs.Answer.{Answer, AreSafe, IsAnswer, where_declared};
+ghost use Rattle.schema_registry.specs.Answer.{Gives};
+ghost use Rattle.spec_registry.specs.Answers.{AreAccepted, GivesId, Grows, answer_to, is_full, pairs_of};
+ghost use Rattle.spec_registry.specs.Command.{RegisterCommand};
+ghost use Rattle.schema_registry.specs.Command.{command_of, subject_in};
 ghost use Rattle.schema_registry.specs.Keeping.{IsDecision};
-ghost use Rattle.schema_registry.specs.Lists.{level_of, versions_of, with_text};
-ghost use Rattle.schema_registry.specs.Subject.{is_subject};
+ghost use Rattle.spec_registry.specs.Lists.{level_of, versions_of, with_text};
+ghost use Rattle.spec_registry.specs.Subject.{is_subject};
 ghost use Rattle.schema_registry.specs.Tables.{AddsRegistration, AsksToRegister, entry_of};
 
 use super::Registry;
@@ -21,11 +23,11 @@ use crate::decision::Decision;
 use crate::history::History;
 use crate::known_version::KnownVersion;
 use crate::limits::MOST_SUBJECTS;
-use crate::refusal::Refusal;
 use crate::reply::Reply;
 use crate::room::has_no_room;
 use crate::subject::is_subject;
 use avro_schema::{Schema, SchemaError};
+use spec_registry::Refusal;
 use std::alloc::{AllocError, Global};
 
 /// Returns the schema that a text declares; `BadSchema` where it declares none.

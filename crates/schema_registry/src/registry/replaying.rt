@@ -2,8 +2,8 @@
 
 ghost use Rattle.std.specs.Prelude.{◌≡◌, ◌≢◌, ◌≤◌, ◌++◌, [], ◌∷◌, IfErr, IfOk, OnOk, OnErr, option_map, string_bytes, vec_len};
 ghost use Rattle.registry_store.specs.Stored.{stored_of};
-ghost use Rattle.schema_registry.specs.Accepting.{registry_after};
-ghost use Rattle.schema_registry.specs.Command.{RegisterCommand, SetLevelCommand};
+ghost use Rattle.spec_registry.specs.Accepting.{registry_after};
+ghost use Rattle.spec_registry.specs.Command.{RegisterCommand, SetLevelCommand};
 ghost use Rattle.schema_registry.specs.Keeping.{KeptCommand, KeptLevel, KeptRegistration, kept_in};
 ghost use Rattle.schema_registry.specs.Replaying.{AreOfNoRegistry, IsWhyNotReplayed, stored_all, stored_as, stored_in};
 
@@ -12,9 +12,9 @@ use super::registering::schema_for;
 use crate::candidate::Candidate;
 use crate::command::Command;
 use crate::decision::Decision;
-use crate::level::Level;
-use crate::refusal::Refusal;
+use crate::level::{Level, parse_level};
 use registry_store::StoredCommand;
+use spec_registry::Refusal;
 use std::alloc::Global;
 use thiserror::Error;
 
@@ -56,7 +56,7 @@ impl Registry {
                 self.replay_registration(id, subject, text)
             }
             StoredCommand::Level { subject, level } => {
-                let level = Level::parse(&level)?;
+                let level = parse_level(&level)?;
                 self.replay_level(subject, level)
             }
         }

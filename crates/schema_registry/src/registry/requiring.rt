@@ -1,8 +1,8 @@
 //! What a schema has to go together with.
 
 ghost use Rattle.std.specs.Prelude.{◌≡◌, ◌∷◌, [], Some, IfOk, IfSome, IsSome, MatchOption, option_map};
-ghost use Rattle.schema_registry.specs.Accepting.{registry_after};
-ghost use Rattle.schema_registry.specs.Lists.{level_of, version_at, versions_of, with_text};
+ghost use Rattle.spec_registry.specs.Accepting.{registry_after};
+ghost use Rattle.spec_registry.specs.Lists.{level_of, version_at, versions_of, with_text};
 ghost use Rattle.schema_registry.specs.Required.{IsRequirementOf, ids_compared};
 
 use super::Registry;

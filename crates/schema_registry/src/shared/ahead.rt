@@ -1,19 +1,19 @@
 //! What is done before the lock is taken: texts are parsed, and schemas compared with those that the cells show.
 
 ghost use Rattle.std.specs.Prelude.{◌≡◌, string_bytes};
-ghost use Rattle.schema_registry.specs.Command.{CheckCommand, LookupCommand};
+ghost use Rattle.spec_registry.specs.Command.{CheckCommand, LookupCommand};
 ghost use Rattle.schema_registry.specs.Reply.{answer_of};
-ghost use Rattle.schema_registry.specs.Shared.{IsSomeAnswer};
+ghost use Rattle.spec_registry.specs.Shared.{IsSomeAnswer};
 
 use super::SharedRegistry;
 use crate::candidate::Candidate;
 use crate::command::Version;
 use crate::level::Level;
-use crate::refusal::Refusal;
 use crate::registry::asking::schema_beside;
 use crate::registry::registering::schema_for;
 use crate::reply::Reply;
 use crate::requirement::Requirement;
+use spec_registry::Refusal;
 use std::alloc::AllocError;
 use std::sync::Wait;
 

@@ -2,7 +2,7 @@
 //! `find` with an id for the text under it, or `receipt` with a text for what its receipt shows.
 
 ghost use Rattle.std.specs.Prelude.{◌≡◌, ◌<◌, IfOk};
-ghost use Rattle.schema_registry.specs.Shared.{IsReceiptOf};
+ghost use Rattle.spec_registry.specs.Receipt.{IsReceiptOf};
 
 use crate::registry::lines::{answer_line, command_of, reply_line, second_answer};
 use schema_registry::{Receipt, Refusal, SharedRegistry};

@@ -1,6 +1,6 @@
 //! Commands and replies as lines, as the rows have them.
 
-use schema_registry::{Command, Level, Refusal, Reply, Version};
+use schema_registry::{Command, Refusal, Reply, Version, parse_level};
 use std::alloc::{AllocError, Global};
 
 /// Returns the subject that a word names, which is `None` for `*`.
@@ -54,7 +54,7 @@ pub(crate) fn command_of(alloc: Global, line: &str) -> Result<Command, Refusal> 
     match verb {
         "set" => Ok(Command::SetLevel {
             subject: subject_of(alloc, word)?,
-            level: Level::parse(rest)?,
+            level: parse_level(rest)?,
         }),
         "check" => check(alloc, word, rest),
         "subjects" => Ok(Command::Subjects),

@@ -1,7 +1,7 @@
 use Rattle.std.proofs.Common.{◌∙◌, arith, sym}
 use Rattle.std.proofs.lemmas.Result.{err_from_is_err_and}
-use Rattle.assembler.specs.Assembling.{nothing, with_lines}
-use Rattle.assembler.specs.Words.{parts}
+use Rattle.spec_machine.specs.Assembling.{nothing, with_lines}
+use Rattle.spec_machine.specs.ListingWords.{parts}
 use Rattle.assembler.proofs.Reading.{bad_end, good_end, line_fails, line_read}
 use Rattle.assembler.proofs.assembling.take_lines.Goals as goal
 

@@ -1,6 +1,6 @@
 use Rattle.std.proofs.Common.{◌≡◌, ◌+◌, ◌≤◌, length}
-use Rattle.assembler.specs.Assembling.{nothing, with_lines}
-use Rattle.assembler.specs.Words.{parts}
+use Rattle.spec_machine.specs.Assembling.{nothing, with_lines}
+use Rattle.spec_machine.specs.ListingWords.{parts}
 use Rattle.assembler.proofs.assembling.take_lines.Given as goal
 
 abbrev pub invariant-loop-line : goal.invariant-loop-line

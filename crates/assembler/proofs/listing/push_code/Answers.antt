@@ -1,8 +1,8 @@
 use Rattle.std.proofs.Common.{get_or}
 use Rattle.std.proofs.lemmas.Option.{slice_get-get_or}
 use Rattle.std.specs.Prelude.{string_bytes}
-use Rattle.isa.specs.declared.instr.Instr.TheVariants.{Bool}
-use Rattle.assembler.specs.Listing.{instr_line}
+use Rattle.spec_machine.specs.declared.instr.Instr.TheVariants.{Bool}
+use Rattle.spec_machine.specs.Listing.{instr_line}
 use Rattle.assembler.proofs.Lines.{one_more}
 use Rattle.assembler.proofs.listing.push_code.Goals as goal
 

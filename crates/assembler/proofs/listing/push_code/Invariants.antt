@@ -1,6 +1,6 @@
 use Rattle.std.proofs.Common.{◌≡◌, ◌++◌, take}
 use Rattle.std.specs.Prelude.{string_bytes}
-use Rattle.assembler.specs.Listing.{instr_line, lines}
+use Rattle.spec_machine.specs.Listing.{instr_line, lines}
 use Rattle.assembler.proofs.listing.push_code.Given as goal
 
 abbrev pub invariant-loop-address : goal.invariant-loop-address

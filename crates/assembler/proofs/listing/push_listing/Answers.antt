@@ -2,7 +2,7 @@
 use Rattle.std.proofs.Common.{◌≡◌, ◌++◌, List, ap, ◌∙◌, append_assoc}
 use Rattle.std.specs.Prelude.{string_bytes}
 use Rattle.std.proofs.lemmas.Result.{on_ok_weaker}
-use Rattle.assembler.specs.Listing.{constant_line, instr_line, jumps_line, lines, map_line, miss_line}
+use Rattle.spec_machine.specs.Listing.{constant_line, instr_line, jumps_line, lines, map_line, miss_line}
 use Rattle.assembler.proofs.listing.push_listing.Goals as goal
 
 two : {A : Type 0} (old mid new a b : List A) → mid ≡ old ++ a → new ≡ mid ++ b → new ≡ old ++ (a ++ b)

@@ -1,5 +1,5 @@
 use Rattle.std.specs.Prelude.{string_bytes}
-use Rattle.assembler.specs.Listing.{map_line}
+use Rattle.spec_machine.specs.Listing.{map_line}
 use Rattle.assembler.proofs.Lines.{one_more}
 use Rattle.assembler.proofs.listing.push_maps.Goals as goal
 

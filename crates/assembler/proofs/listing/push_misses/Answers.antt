@@ -3,7 +3,7 @@ use Rattle.std.proofs.lemmas.Option.{slice_get-get_or}
 use Rattle.std.specs.Prelude.{string_bytes}
 use Rattle.spec_avro.specs.declared.mismatch.Mismatch.{Mismatch}
 use Rattle.spec_avro.specs.declared.mismatch.MismatchKind.TheVariants.{NoMatch}
-use Rattle.assembler.specs.Listing.{miss_line}
+use Rattle.spec_machine.specs.Listing.{miss_line}
 use Rattle.assembler.proofs.Lines.{one_more}
 use Rattle.assembler.proofs.listing.push_misses.Goals as goal
 

@@ -1,6 +1,6 @@
 use Rattle.std.proofs.Common.{◌≡◌, ◌++◌, take}
 use Rattle.std.specs.Prelude.{string_bytes}
-use Rattle.assembler.specs.Listing.{jumps_line, lines}
+use Rattle.spec_machine.specs.Listing.{jumps_line, lines}
 use Rattle.assembler.proofs.listing.push_tables.Given as goal
 
 abbrev pub invariant-loop-number : goal.invariant-loop-number

@@ -1,6 +1,6 @@
 use Rattle.std.proofs.Common.{sym}
-use Rattle.assembler.specs.Things.{each_in}
-use Rattle.assembler.specs.Words.{later}
+use Rattle.spec_machine.specs.ListingParts.{each_in}
+use Rattle.spec_machine.specs.ListingWords.{later}
 use Rattle.assembler.proofs.Each.{word_fails, word_read, words_read}
 use Rattle.assembler.proofs.things.list_of.Goals as goal
 

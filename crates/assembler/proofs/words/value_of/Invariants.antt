@@ -1,5 +1,5 @@
 use Rattle.std.proofs.Common.{◌≡◌, take}
-use Rattle.assembler.specs.Words.{value_of}
+use Rattle.spec_machine.specs.ListingWords.{value_of}
 use Rattle.assembler.proofs.words.value_of.Given as goal
 
 abbrev pub invariant-loop-digit : goal.invariant-loop-digit

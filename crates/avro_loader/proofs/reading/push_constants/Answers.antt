@@ -1,5 +1,5 @@
 use Rattle.std.proofs.lemmas.Result.{err_from_is_err_and}
-use Rattle.isa.specs.declared.limits.TheConstants.{MOST_CONSTANT_BYTES}
+use Rattle.spec_machine.specs.declared.limits.TheConstants.{MOST_CONSTANT_BYTES}
 use Rattle.avro_loader.specs.declared.fault.LoadError.TheVariants.{Fault}
 use Rattle.avro_loader.specs.Reading.{constants_at}
 use Rattle.avro_loader.proofs.Loop.{constant_fails, constant_read, constants_read}

@@ -1,5 +1,5 @@
 use Rattle.std.proofs.Common.{◌≡◌, ◌-◌}
-use Rattle.isa.specs.declared.limits.TheConstants.{MOST_CONSTANT_BYTES}
+use Rattle.spec_machine.specs.declared.limits.TheConstants.{MOST_CONSTANT_BYTES}
 use Rattle.avro_loader.specs.Reading.{constants_at}
 use Rattle.avro_loader.proofs.Loop.{with_front}
 use Rattle.avro_loader.proofs.reading.push_constants.Given as goal

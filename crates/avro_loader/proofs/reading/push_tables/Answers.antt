@@ -1,5 +1,5 @@
 use Rattle.std.proofs.lemmas.Result.{err_from_is_err_and}
-use Rattle.isa.specs.declared.limits.TheConstants.{MOST_ENTRIES}
+use Rattle.spec_machine.specs.declared.limits.TheConstants.{MOST_ENTRIES}
 use Rattle.avro_loader.specs.Reading.{section_at, things_at}
 use Rattle.avro_loader.proofs.Loop.{thing_fails, thing_read, things_read}
 use Rattle.avro_loader.proofs.reading.push_tables.Goals as goal

@@ -1,5 +1,5 @@
 use Rattle.std.proofs.Common.{◌≡◌, ◌-◌}
-use Rattle.isa.specs.declared.limits.TheConstants.{MOST_ENTRIES}
+use Rattle.spec_machine.specs.declared.limits.TheConstants.{MOST_ENTRIES}
 use Rattle.avro_loader.specs.Reading.{section_at, things_at}
 use Rattle.avro_loader.proofs.Loop.{with_front}
 use Rattle.avro_loader.proofs.reading.push_tables.Given as goal

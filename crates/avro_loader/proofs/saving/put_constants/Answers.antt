@@ -1,6 +1,6 @@
 use Rattle.std.proofs.Common.{◌∙◌, append_assoc, length}
-use Rattle.avro_loader.specs.Spelling.{long}
-use Rattle.avro_loader.specs.Image.{constant}
+use Rattle.spec_machine.specs.ImageSpelling.{long}
+use Rattle.spec_machine.specs.Image.{constant}
 use Rattle.avro_loader.proofs.Saved.{one_more}
 use Rattle.avro_loader.proofs.saving.put_constants.Goals as goal
 

@@ -1,6 +1,6 @@
 use Rattle.std.proofs.Common.{length, ap, sym, ◌∙◌, Some}
 use Rattle.std.proofs.lemmas.Option.{slice_get-get_or}
-use Rattle.avro_loader.specs.Spelling.{long}
+use Rattle.spec_machine.specs.ImageSpelling.{long}
 use Rattle.avro_loader.proofs.Saved.{one_more}
 use Rattle.avro_loader.proofs.saving.put_section.Goals as goal
 

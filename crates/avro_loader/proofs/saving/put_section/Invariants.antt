@@ -1,6 +1,6 @@
 use Rattle.std.proofs.Common.{◌≡◌, ◌++◌, length, take}
 use Rattle.std.specs.List.{flat_map}
-use Rattle.avro_loader.specs.Spelling.{long}
+use Rattle.spec_machine.specs.ImageSpelling.{long}
 use Rattle.avro_loader.proofs.saving.put_section.Given as goal
 
 abbrev pub invariant-loop-thing : goal.invariant-loop-thing

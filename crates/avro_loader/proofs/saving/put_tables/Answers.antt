@@ -1,6 +1,6 @@
 use Rattle.std.proofs.Common.{length}
-use Rattle.avro_loader.specs.Spelling.{long}
-use Rattle.avro_loader.specs.Image.{section}
+use Rattle.spec_machine.specs.ImageSpelling.{long}
+use Rattle.spec_machine.specs.Image.{section}
 use Rattle.avro_loader.proofs.Saved.{one_more}
 use Rattle.avro_loader.proofs.saving.put_tables.Goals as goal
 

@@ -1,7 +1,7 @@
 use Rattle.std.proofs.Common.{◌≡◌, ◌++◌, length, take}
 use Rattle.std.specs.List.{flat_map}
-use Rattle.avro_loader.specs.Spelling.{long}
-use Rattle.avro_loader.specs.Image.{section}
+use Rattle.spec_machine.specs.ImageSpelling.{long}
+use Rattle.spec_machine.specs.Image.{section}
 use Rattle.avro_loader.proofs.saving.put_tables.Given as goal
 
 abbrev pub invariant-loop-number : goal.invariant-loop-number

@@ -3,11 +3,12 @@ use Rattle.std.proofs.lemmas.Result.{err_from_is_err_and}
 use Rattle.std.specs.Option.{ok_or}
 use Rattle.serde_json.specs.Data.{depth, items_depth}
 use Rattle.serde_json.specs.View.{view, items_view, members_view}
-use Rattle.avro_schema_names.specs.declared.error.SchemaError.TheVariants.{BadDefault}
+use Rattle.spec_schema.specs.declared.schema_error.SchemaError.TheVariants.{BadDefault}
 use Rattle.spec_avro.specs.Datum.{Data, Pairs, Datum, ArrayDatum, MapDatum, RecordDatum, UnionDatum}
-use Rattle.avro_schema.specs.Defaults.{value_of}
+use Rattle.spec_schema.specs.Defaults.{value_of}
 use Rattle.serde_json.specs.Find.{get}
-use Rattle.avro_schema_names.specs.Draft.{Whole, draft_field_of, draft_of, drafts_of}
+use Rattle.spec_schema.specs.Draft.{Whole}
+use Rattle.avro_schema_names.specs.Draft.{draft_field_of, draft_of, drafts_of}
 use Rattle.avro_types.specs.Node.{node_of}
 use Rattle.avro_types.specs.Laws.DatumOf.{datum_of-Array, datum_of-Map, datum_of-Record}
 use Rattle.avro_schema.proofs.DefaultParts.{draft-at, few-at, items-on, items-fail, items-end, pairs-on, pairs-fail, pairs-end, members-depth, union-value, whole-plain, fault-map, told-map, fields-on, fields-fail, fields-end, record-value, record-other, array-value, array-other, map-value, map-other, whole-leaf, leaf-value}

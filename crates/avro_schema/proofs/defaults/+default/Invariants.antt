@@ -2,7 +2,7 @@ use Rattle.std.proofs.Common.{◌≡◌, ◌≤◌, ◌+◌, ◌*◌, drop, opti
 use Rattle.serde_json.specs.Data.{depth, items_depth, members_depth}
 use Rattle.serde_json.specs.Find.{get}
 use Rattle.serde_json.specs.View.{view, items_view, members_view}
-use Rattle.avro_schema.specs.Defaults.{fields_value, items_value, pairs_value, value_of}
+use Rattle.spec_schema.specs.Defaults.{fields_value, items_value, pairs_value, value_of}
 use Rattle.avro_schema_names.specs.Draft.{draft_field_of, drafts_of}
 use Rattle.avro_schema.proofs.DefaultValues.{first_datum, first_pair}
 use Rattle.avro_schema.proofs.OneByOne.{before}

@@ -4,7 +4,7 @@ use Rattle.std.specs.Str.{chars}
 use Rattle.std.proofs.lemmas.Iterator.{YieldsList-from_chars}
 use Rattle.std.proofs.lemmas.Iterator.Consumers.{YieldsList-turn, YieldsList-end}
 use Rattle.std.proofs.lemmas.List.{length_push}
-use Rattle.avro_schema_names.specs.declared.error.SchemaError.TheVariants.{BadDefault}
+use Rattle.spec_schema.specs.declared.schema_error.SchemaError.TheVariants.{BadDefault}
 use Rattle.avro_schema.proofs.DefaultValues.{bytes-on, bytes-fail, bytes-end}
 use Rattle.avro_schema.proofs.defaults.bytes_in.Goals as goal
 

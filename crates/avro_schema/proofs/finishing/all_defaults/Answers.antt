@@ -1,7 +1,7 @@
 use Rattle.std.proofs.Common.{List, Option, refl, sym, ap, ◌∙◌, arith}
 use Rattle.std.proofs.lemmas.Result.{err_from_is_err_and}
 use Rattle.std.specs.Option.{ok_or}
-use Rattle.avro_schema_names.specs.declared.error.SchemaError.TheVariants.{BadDefault}
+use Rattle.spec_schema.specs.declared.schema_error.SchemaError.TheVariants.{BadDefault}
 use Rattle.spec_avro.specs.Datum.{Datum}
 use Rattle.avro_schema_names.specs.Draft.{drafts_of}
 use Rattle.avro_schema.proofs.Finished.{node_read, nodes_read, nodes_read-steps, row_of, row-on, row-fails, row-ends}

@@ -1,6 +1,6 @@
 use Rattle.std.proofs.Common.{List, Option, option_map, refl, sym, ap, ◌∙◌, arith}
 use Rattle.std.specs.Option.{ok_or}
-use Rattle.avro_schema_names.specs.declared.error.SchemaError.TheVariants.{BadDefault}
+use Rattle.spec_schema.specs.declared.schema_error.SchemaError.TheVariants.{BadDefault}
 use Rattle.spec_avro.specs.Datum.{Datum}
 use Rattle.avro_types.specs.Datum.{datum_of}
 use Rattle.avro_schema_names.specs.Draft.{drafts_of}

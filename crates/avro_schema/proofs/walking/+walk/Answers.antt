@@ -1,5 +1,6 @@
 use Rattle.std.proofs.Common.{rules, codes, ◌≤◌, ◌<◌, ◌≡◌, ◌∙◌, sym, ap, refl, arith, option_map, length, map, [], string_bytes}
-use Rattle.avro_schema_names.specs.Draft.{field_names, Whole, RecordDraft, draft_field_of}
+use Rattle.avro_schema_names.specs.Draft.{field_names, draft_field_of}
+use Rattle.spec_schema.specs.Draft.{Whole, RecordDraft}
 use Rattle.std.specs.Arc.{arc_str_bytes}
 use Rattle.std.proofs.lemmas.Result.{err_from_is_err_and}
 use Rattle.serde_json.specs.Data.{string, depth, items_depth}
@@ -8,12 +9,11 @@ use Rattle.serde_json.specs.declared.value.Value.{the_lemmas}
 use Rattle.serde_json.proofs.Views.{view-Array, view-Object}
 use Rattle.spec_avro.specs.declared.limits.TheConstants.{MOST_FIELDS, MOST_NODES}
 use Rattle.avro_schema.specs.Contract.{holder_walk, object_walk}
-use Rattle.avro_schema_names.specs.Head.{Named}
+use Rattle.spec_schema.specs.Head.{Named}
 use Rattle.spec_avro.specs.Aliases.{full_names}
-use Rattle.spec_avro.specs.Node.{UnionNode}
-use Rattle.avro_types.specs.Node.{names_of}
-use Rattle.avro_schema.specs.Walk.{walk}
-use Rattle.avro_schema_names.proofs.DraftLists.{map-push}
+use Rattle.spec_avro.specs.Node.{UnionNode, names_of}
+use Rattle.spec_schema.specs.Walk.{walk}
+use Rattle.avro_schema_names.specs.Laws.Plain.{map-push}
 use Rattle.avro_schema.proofs.FieldList.{fields-on, fields-fail, fields-end, run-field, run-many}
 use Rattle.avro_schema.proofs.MemberList.{members-on, members-fail, members-end, union-failed, union-bad, union-done, pushed_union}
 use Rattle.avro_schema_names.proofs.Depths.{found-depth, item-depth}
@@ -58,15 +58,15 @@ walk_at-returns-in-None t c = λ _. rw c.in-None.is (run-fault _ _ _)
 
 pub walk_object-returns-in-Record : goal.walk_object-returns-in-Record
 unfolding object_walk
-walk_object-returns-in-Record t c = rw (← c.get.ensures, ← c.of_type.ensures, c.in-Record.is) c.walk_record.ensures
+walk_object-returns-in-Record t c = rw (← c.get.ensures, ← c.form_of_type.ensures, c.in-Record.is) c.walk_record.ensures
 
 pub walk_object-returns-in-Enum : goal.walk_object-returns-in-Enum
 unfolding object_walk
-walk_object-returns-in-Enum t c = rw (← c.get.ensures, ← c.of_type.ensures, c.in-Enum.is) c.walk_enum.ensures
+walk_object-returns-in-Enum t c = rw (← c.get.ensures, ← c.form_of_type.ensures, c.in-Enum.is) c.walk_enum.ensures
 
 pub walk_object-returns-in-Fixed : goal.walk_object-returns-in-Fixed
 unfolding object_walk
-walk_object-returns-in-Fixed t c = rw (← c.get.ensures, ← c.of_type.ensures, c.in-Fixed.is) c.walk_fixed.ensures
+walk_object-returns-in-Fixed t c = rw (← c.get.ensures, ← c.form_of_type.ensures, c.in-Fixed.is) c.walk_fixed.ensures
 
 pub walk_object-walk_holder-requires : goal.walk_object-walk_holder-requires
 walk_object-walk_holder-requires t c =
@@ -75,7 +75,7 @@ walk_object-walk_holder-requires t c =
 
 pub walk_object-returns-in-Array : goal.walk_object-returns-in-Array
 unfolding object_walk holder_walk
-walk_object-returns-in-Array t c = rw (← c.get.ensures, ← c.of_type.ensures, c.in-Array.is, ← c.get-in-Array.ensures) c.walk_holder.ensures
+walk_object-returns-in-Array t c = rw (← c.get.ensures, ← c.form_of_type.ensures, c.in-Array.is, ← c.get-in-Array.ensures) c.walk_holder.ensures
 
 pub walk_object-walk_holder-requires-in-Map : goal.walk_object-walk_holder-requires-in-Map
 walk_object-walk_holder-requires-in-Map t c =
@@ -84,11 +84,11 @@ walk_object-walk_holder-requires-in-Map t c =
 
 pub walk_object-returns-in-Map : goal.walk_object-returns-in-Map
 unfolding object_walk holder_walk
-walk_object-returns-in-Map t c = rw (← c.get.ensures, ← c.of_type.ensures, c.in-Map.is, ← c.get-in-Map.ensures) c.walk_holder-in-Map.ensures
+walk_object-returns-in-Map t c = rw (← c.get.ensures, ← c.form_of_type.ensures, c.in-Map.is, ← c.get-in-Map.ensures) c.walk_holder-in-Map.ensures
 
 pub walk_object-returns-in-Error : goal.walk_object-returns-in-Error
 unfolding object_walk
-walk_object-returns-in-Error t c = λ _. rw (← c.get.ensures, ← c.of_type.ensures, c.in-Error.is) (run-fault _ _ _)
+walk_object-returns-in-Error t c = λ _. rw (← c.get.ensures, ← c.form_of_type.ensures, c.in-Error.is) (run-fault _ _ _)
 
 pub walk_object-walk_at-requires : goal.walk_object-walk_at-requires
 walk_object-walk_at-requires t c =
@@ -97,7 +97,7 @@ walk_object-walk_at-requires t c =
 
 pub walk_object-returns-in-Other : goal.walk_object-returns-in-Other
 unfolding object_walk
-walk_object-returns-in-Other t c = rw (← c.get.ensures, ← c.of_type.ensures, c.in-Other.is, ← c.get-in-Other.ensures) c.walk_at.ensures
+walk_object-returns-in-Other t c = rw (← c.get.ensures, ← c.form_of_type.ensures, c.in-Other.is, ← c.get-in-Other.ensures) c.walk_at.ensures
 
 -- ---- an array or a map
 

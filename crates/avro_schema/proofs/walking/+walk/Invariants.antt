@@ -5,7 +5,7 @@ use Rattle.serde_json.specs.View.{view, items_view}
 use Rattle.avro_schema_names.specs.Draft.{field_names, data_at}
 use Rattle.avro_schema.specs.Contract.{run}
 use Rattle.avro_schema_names.specs.Index.{IsNamespaceOf}
-use Rattle.avro_schema.specs.Walk.{fields_after, members}
+use Rattle.spec_schema.specs.Walk.{fields_after, members}
 use Rattle.avro_schema.proofs.FieldList.{behind}
 use Rattle.avro_schema_names.proofs.Depths.{option_depth}
 use Rattle.avro_schema.proofs.walking.+walk.Given as goal

@@ -1,6 +1,6 @@
 use Rattle.std.proofs.Common.{◌≡◌, ◌≢◌, true, refl}
 use Rattle.serde_json.specs.View.{view}
-use Rattle.avro_schema_names.specs.declared.error.SchemaError.TheVariants.{NoMemory}
+use Rattle.spec_schema.specs.declared.schema_error.SchemaError.TheVariants.{NoMemory}
 use Rattle.avro_schema_faults.proofs.Found.{fault-found, number-found}
 use Rattle.avro_schema_faults.proofs.faults.fault_in.Goals as goal
 

@@ -5,8 +5,8 @@ use Rattle.serde_json.specs.Data.{Items, array, string, depth, items_depth}
 use Rattle.serde_json.specs.View.{view, items_view}
 use Rattle.serde_json.specs.declared.value.Value.{the_lemmas}
 use Rattle.avro_schema_names.proofs.Depths.{item-depth}
-use Rattle.avro_schema_names.specs.Word.{form_of}
-use Rattle.avro_schema_names.specs.declared.word.Form.TheVariants as forms
+use Rattle.spec_schema.specs.Word.{form_of}
+use Rattle.spec_schema.specs.declared.word.Form.TheVariants as forms
 use Rattle.avro_schema_paths.specs.Places.{Path}
 use Rattle.avro_schema_paths.specs.declared.step.Step.TheVariants as steps
 use Rattle.avro_schema.proofs.Members.{walk-scalar}
@@ -75,17 +75,17 @@ seek_in_members-returns t c =
 
 pub seek_in_object-returns-in-Enum : goal.seek_in_object-returns-in-Enum
 seek_in_object-returns-in-Enum t c =
-    let form : IsOfForm forms.Enum (view c.args.value.now) = record { object = c.requires.object; form = ap form_of (sym c.get.ensures) ∙ sym c.of_type.ensures ∙ c.in-Enum.is } in
+    let form : IsOfForm forms.Enum (view c.args.value.now) = record { object = c.requires.object; form = ap form_of (sym c.get.ensures) ∙ sym c.form_of_type.ensures ∙ c.in-Enum.is } in
     searched-here AllocError (SoughtIn (view c.args.value.now) c.args.left) c.checked_sub.result c.args.trail.now.items (sought-next (view c.args.value.now) (enum-adds (view c.args.value.now) form) c.args.left c.checked_sub.result c.checked_sub.ensures)
 
 pub seek_in_object-returns-in-Fixed : goal.seek_in_object-returns-in-Fixed
 seek_in_object-returns-in-Fixed t c =
-    let form : IsOfForm forms.Fixed (view c.args.value.now) = record { object = c.requires.object; form = ap form_of (sym c.get.ensures) ∙ sym c.of_type.ensures ∙ c.in-Fixed.is } in
+    let form : IsOfForm forms.Fixed (view c.args.value.now) = record { object = c.requires.object; form = ap form_of (sym c.get.ensures) ∙ sym c.form_of_type.ensures ∙ c.in-Fixed.is } in
     searched-here AllocError (SoughtIn (view c.args.value.now) c.args.left) c.checked_sub-in-Fixed.result c.args.trail.now.items (sought-next (view c.args.value.now) (fixed-adds (view c.args.value.now) form) c.args.left c.checked_sub-in-Fixed.result c.checked_sub-in-Fixed.ensures)
 
 pub seek_in_object-returns-in-Error : goal.seek_in_object-returns-in-Error
 seek_in_object-returns-in-Error t c =
-    let form : IsOfForm forms.Error (view c.args.value.now) = record { object = c.requires.object; form = ap form_of (sym c.get.ensures) ∙ sym c.of_type.ensures ∙ c.in-Error.is } in
+    let form : IsOfForm forms.Error (view c.args.value.now) = record { object = c.requires.object; form = ap form_of (sym c.get.ensures) ∙ sym c.form_of_type.ensures ∙ c.in-Error.is } in
     searched-here AllocError (SoughtIn (view c.args.value.now) c.args.left) (Some c.args.left) c.args.trail.now.items (sought-never (view c.args.value.now) (error-never (view c.args.value.now) form) c.args.left (Some c.args.left) [])
 
 pub seek_in_wrapper-seek_in_part-requires : goal.seek_in_wrapper-seek_in_part-requires

@@ -8,19 +8,19 @@ use Rattle.serde_json.specs.View.{view, items_view}
 use Rattle.serde_json.specs.declared.value.Value.{the_lemmas}
 use Rattle.serde_json.proofs.Views.{view-Array, view-Object}
 use Rattle.spec_avro.specs.Aliases.{full_names}
-use Rattle.spec_avro.specs.Node.{ArrayNode, MapNode, UnionNode}
-use Rattle.avro_types.specs.Node.{names_of}
+use Rattle.spec_avro.specs.Node.{ArrayNode, MapNode, UnionNode, names_of}
 use Rattle.spec_avro.specs.declared.limits.TheConstants.{MOST_FIELDS, MOST_NODES}
-use Rattle.avro_schema_names.specs.Draft.{RecordDraft, Whole, draft_field_of, field_names}
-use Rattle.avro_schema_names.specs.Head.{heads_of}
+use Rattle.spec_schema.specs.Draft.{RecordDraft, Whole}
+use Rattle.avro_schema_names.specs.Draft.{draft_field_of, field_names}
+use Rattle.spec_schema.specs.Head.{heads_of}
 use Rattle.avro_schema_names.proofs.Depths.{item-depth}
-use Rattle.avro_schema_names.proofs.DraftLists.{map-push}
-use Rattle.avro_schema_names.specs.Word.{form_of}
-use Rattle.avro_schema_names.specs.declared.error.SchemaError.TheVariants.{BadUnion, OutOfProfile, TooLarge, Unknown}
-use Rattle.avro_schema_names.specs.declared.word.Form.TheVariants as forms
+use Rattle.avro_schema_names.specs.Laws.Plain.{map-push}
+use Rattle.spec_schema.specs.Word.{form_of}
+use Rattle.spec_schema.specs.declared.schema_error.SchemaError.TheVariants.{BadUnion, OutOfProfile, TooLarge, Unknown}
+use Rattle.spec_schema.specs.declared.word.Form.TheVariants as forms
 use Rattle.avro_schema_paths.specs.declared.step.Step.TheVariants as steps
 use Rattle.avro_schema.specs.Contract.{object_walk, run}
-use Rattle.avro_schema.specs.Walk.{field, fields, walk}
+use Rattle.spec_schema.specs.Walk.{field, fields, walk}
 use Rattle.avro_schema.proofs.FieldList.{fields-on, fields-fail, fields-end, run-field, run-many}
 use Rattle.avro_schema.proofs.MemberList.{members-on, members-fail, members-end, union-failed, union-bad, union-done, pushed_union}
 use Rattle.avro_schema.proofs.Members.{walk-scalar, walk-object, field-other, fields-none, fields-some}
@@ -87,45 +87,45 @@ walk-returns-in-Object-clause-nodes t c =
 
 pub walk_object-returns-in-Record-clause-nodes : goal.walk_object-returns-in-Record-clause-nodes
 unfolding object_walk
-walk_object-returns-in-Record-clause-nodes t c = rw (← c.get.ensures, ← c.of_type.ensures, c.in-Record.is) c.walk_record.ensures.nodes
+walk_object-returns-in-Record-clause-nodes t c = rw (← c.get.ensures, ← c.form_of_type.ensures, c.in-Record.is) c.walk_record.ensures.nodes
 
 pub walk_object-returns-in-Enum-clause-nodes : goal.walk_object-returns-in-Enum-clause-nodes
 unfolding object_walk
-walk_object-returns-in-Enum-clause-nodes t c = rw (← c.get.ensures, ← c.of_type.ensures, c.in-Enum.is) c.walk_enum.ensures
+walk_object-returns-in-Enum-clause-nodes t c = rw (← c.get.ensures, ← c.form_of_type.ensures, c.in-Enum.is) c.walk_enum.ensures
 
 pub walk_object-returns-in-Fixed-clause-nodes : goal.walk_object-returns-in-Fixed-clause-nodes
 unfolding object_walk
-walk_object-returns-in-Fixed-clause-nodes t c = rw (← c.get.ensures, ← c.of_type.ensures, c.in-Fixed.is) c.walk_fixed.ensures
+walk_object-returns-in-Fixed-clause-nodes t c = rw (← c.get.ensures, ← c.form_of_type.ensures, c.in-Fixed.is) c.walk_fixed.ensures
 
 pub walk_object-returns-in-Array-clause-nodes : goal.walk_object-returns-in-Array-clause-nodes
 unfolding object_walk
-walk_object-returns-in-Array-clause-nodes t c = rw (← c.get.ensures, ← c.of_type.ensures, c.in-Array.is) c.walk_array.ensures.nodes
+walk_object-returns-in-Array-clause-nodes t c = rw (← c.get.ensures, ← c.form_of_type.ensures, c.in-Array.is) c.walk_array.ensures.nodes
 
 pub walk_object-returns-in-Map-clause-nodes : goal.walk_object-returns-in-Map-clause-nodes
 unfolding object_walk
-walk_object-returns-in-Map-clause-nodes t c = rw (← c.get.ensures, ← c.of_type.ensures, c.in-Map.is) c.walk_map.ensures.nodes
+walk_object-returns-in-Map-clause-nodes t c = rw (← c.get.ensures, ← c.form_of_type.ensures, c.in-Map.is) c.walk_map.ensures.nodes
 
 pub walk_object-returns-in-Other-clause-nodes : goal.walk_object-returns-in-Other-clause-nodes
 unfolding object_walk
-walk_object-returns-in-Other-clause-nodes t c = rw (← c.get.ensures, ← c.of_type.ensures, c.in-Other.is) c.walk_wrapped.ensures.nodes
+walk_object-returns-in-Other-clause-nodes t c = rw (← c.get.ensures, ← c.form_of_type.ensures, c.in-Other.is) c.walk_wrapped.ensures.nodes
 
 pub walk_object-returns-in-Error-clause-nodes : goal.walk_object-returns-in-Error-clause-nodes
 unfolding object_walk
-walk_object-returns-in-Error-clause-nodes t c = λ _. rw (← c.get.ensures, ← c.of_type.ensures, c.in-Error.is) (run-fault OutOfProfile (arc_str_bytes c.args.enclosing.now.text) c.args.drafts.now)
+walk_object-returns-in-Error-clause-nodes t c = λ _. rw (← c.get.ensures, ← c.form_of_type.ensures, c.in-Error.is) (run-fault OutOfProfile (arc_str_bytes c.args.enclosing.now.text) c.args.drafts.now)
 
 pub walk_object-returns-in-Enum-clause-place : goal.walk_object-returns-in-Enum-clause-place
 walk_object-returns-in-Enum-clause-place t c =
-    let form : IsOfForm forms.Enum (view c.args.value.now) = record { object = c.requires.object; form = ap form_of (sym c.get.ensures) ∙ sym c.of_type.ensures ∙ c.in-Enum.is } in
+    let form : IsOfForm forms.Enum (view c.args.value.now) = record { object = c.requires.object; form = ap form_of (sym c.get.ensures) ∙ sym c.form_of_type.ensures ∙ c.in-Enum.is } in
     leaves-formed (λ n. n) c.walk_enum.result forms.Enum (view c.args.value.now) (arc_str_bytes c.args.enclosing.now.text) c.args.drafts.now c.walk_enum.new.drafts c.args.trail.now.items form c.walk_enum.ensures (enum-sound (view c.args.value.now) (arc_str_bytes c.args.enclosing.now.text) (heads_of c.args.drafts.now) form)
 
 pub walk_object-returns-in-Fixed-clause-place : goal.walk_object-returns-in-Fixed-clause-place
 walk_object-returns-in-Fixed-clause-place t c =
-    let form : IsOfForm forms.Fixed (view c.args.value.now) = record { object = c.requires.object; form = ap form_of (sym c.get.ensures) ∙ sym c.of_type.ensures ∙ c.in-Fixed.is } in
+    let form : IsOfForm forms.Fixed (view c.args.value.now) = record { object = c.requires.object; form = ap form_of (sym c.get.ensures) ∙ sym c.form_of_type.ensures ∙ c.in-Fixed.is } in
     leaves-formed (λ n. n) c.walk_fixed.result forms.Fixed (view c.args.value.now) (arc_str_bytes c.args.enclosing.now.text) c.args.drafts.now c.walk_fixed.new.drafts c.args.trail.now.items form c.walk_fixed.ensures (fixed-sound (view c.args.value.now) (arc_str_bytes c.args.enclosing.now.text) (heads_of c.args.drafts.now) form)
 
 pub walk_object-returns-in-Error-clause-place : goal.walk_object-returns-in-Error-clause-place
 walk_object-returns-in-Error-clause-place t c =
-    let form : IsOfForm forms.Error (view c.args.value.now) = record { object = c.requires.object; form = ap form_of (sym c.get.ensures) ∙ sym c.of_type.ensures ∙ c.in-Error.is } in
+    let form : IsOfForm forms.Error (view c.args.value.now) = record { object = c.requires.object; form = ap form_of (sym c.get.ensures) ∙ sym c.form_of_type.ensures ∙ c.in-Error.is } in
     λ known. ends-here OutOfProfile (schema (view c.args.value.now) (arc_str_bytes c.args.enclosing.now.text) (heads_of c.args.drafts.now)) c.args.trail.now.items c.args.trail.now.items refl (form-fails forms.Error (view c.args.value.now) (arc_str_bytes c.args.enclosing.now.text) c.args.drafts.now OutOfProfile form (run-fault OutOfProfile (arc_str_bytes c.args.enclosing.now.text) c.args.drafts.now)) (error-sound (view c.args.value.now) (arc_str_bytes c.args.enclosing.now.text) (heads_of c.args.drafts.now) form)
 
 -- ---- a value that an object wraps

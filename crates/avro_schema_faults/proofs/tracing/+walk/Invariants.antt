@@ -3,10 +3,10 @@ use Rattle.std.specs.Arc.{arc_str_bytes}
 use Rattle.serde_json.specs.Data.{depth, items_depth}
 use Rattle.serde_json.specs.View.{view, items_view}
 use Rattle.avro_schema_names.specs.Draft.{field_names}
-use Rattle.avro_schema_names.specs.Head.{heads_of}
+use Rattle.spec_schema.specs.Head.{heads_of}
 use Rattle.avro_schema_names.specs.Index.{IsNamespaceOf}
 use Rattle.avro_schema.specs.Contract.{run}
-use Rattle.avro_schema.specs.Walk.{fields_after, members}
+use Rattle.spec_schema.specs.Walk.{fields_after, members}
 use Rattle.avro_schema.proofs.FieldList.{behind}
 use Rattle.avro_schema_faults.proofs.Reaching.{Reaches, ReachesField}
 use Rattle.avro_schema_faults.proofs.tracing.+walk.Given as goal

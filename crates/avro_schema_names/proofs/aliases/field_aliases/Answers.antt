@@ -1,5 +1,5 @@
 use Rattle.std.proofs.Common.{refl}
-use Rattle.avro_schema_names.specs.Aliases.{field_aliases}
+use Rattle.spec_schema.specs.Aliases.{field_aliases}
 use Rattle.avro_schema_names.proofs.Texts.{all_names}
 use Rattle.avro_schema_names.proofs.aliases.field_aliases.Goals as goal
 

@@ -1,6 +1,6 @@
 use Rattle.std.proofs.Common.{◌≡◌, true, refl}
 use Rattle.spec_avro.specs.FullNames.{is_namespace, namespace_of}
-use Rattle.avro_schema_names.specs.Aliases.{type_aliases}
+use Rattle.spec_schema.specs.Aliases.{type_aliases}
 use Rattle.avro_schema_names.proofs.TypeAliases.{all_full}
 use Rattle.avro_schema_names.proofs.aliases.type_aliases.Goals as goal
 

@@ -1,4 +1,4 @@
-use Rattle.avro_schema_names.specs.Names.{field_name}
+use Rattle.spec_schema.specs.Names.{field_name}
 use Rattle.avro_schema_names.proofs.names.field_name.Goals as goal
 
 pub returns : goal.returns

@@ -1,6 +1,6 @@
 use Rattle.std.proofs.Common.{sym, ◌∙◌}
 use Rattle.std.specs.Arc.{arc_str_bytes}
-use Rattle.avro_schema_names.specs.Head.{heads_of}
+use Rattle.spec_schema.specs.Head.{heads_of}
 use Rattle.avro_types.specs.Laws.Booleans.{is_nowhere}
 use Rattle.avro_types.specs.Laws.Dots.{namespace-inside}
 use Rattle.avro_schema_names.proofs.Namespaces.{namespaces-numbered}

@@ -1,7 +1,8 @@
 use Rattle.std.proofs.Common.{◌≡◌, drop}
 use Rattle.serde_json.specs.View.{items_view}
-use Rattle.avro_schema_names.specs.Attributes.{texts_in}
-use Rattle.avro_schema_names.proofs.Texts.{listed, names}
+use Rattle.spec_schema.specs.Attributes.{texts_in}
+use Rattle.avro_schema_names.proofs.Texts.{listed}
+use Rattle.avro_types.specs.Laws.Plain.{names}
 use Rattle.avro_schema_names.proofs.type_attributes.texts_in.Given as goal
 
 abbrev pub invariant-loop-item : goal.invariant-loop-item

@@ -1,5 +1,5 @@
 use Rattle.std.proofs.Common.{◌≡◌, refl, sym, ◌∙◌, false}
-use Rattle.avro_schema_names.specs.Head.{heads_of}
+use Rattle.spec_schema.specs.Head.{heads_of}
 use Rattle.avro_schema_names.proofs.MemberHeads.{apart_from, apart-at, apart-end, take-at}
 use Rattle.avro_schema_names.proofs.unions.are_apart.Goals as goal
 

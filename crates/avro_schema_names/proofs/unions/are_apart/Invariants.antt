@@ -1,5 +1,5 @@
 use Rattle.std.proofs.Common.{◌≡◌, take}
-use Rattle.avro_schema_names.specs.Head.{heads_of}
+use Rattle.spec_schema.specs.Head.{heads_of}
 use Rattle.avro_schema_names.specs.Unnamed.{AreNamedMembers}
 use Rattle.avro_schema_names.proofs.MemberHeads.{apart_from}
 use Rattle.avro_schema_names.proofs.unions.are_apart.Given as goal

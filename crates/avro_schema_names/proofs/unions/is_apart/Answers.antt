@@ -1,6 +1,7 @@
 use Rattle.std.proofs.Common.{◌≡◌, not, refl, ap, ◌∙◌}
 use Rattle.avro_schema_names.specs.Draft.{draft_of}
-use Rattle.avro_schema_names.specs.Head.{head_of, heads_of, is_named_head, head_at}
+use Rattle.spec_schema.specs.Head.{head_of, heads_of, head_at}
+use Rattle.avro_schema_names.specs.Head.{is_named_head}
 use Rattle.avro_schema_names.proofs.MemberHeads.{any_mapped, head_here}
 use Rattle.avro_schema_names.proofs.NamedMembers.{member-apart, named-kept, named-pushed, unnamed-none}
 use Rattle.avro_schema_names.proofs.unions.is_apart.Goals as goal

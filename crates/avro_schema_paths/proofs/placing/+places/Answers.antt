@@ -8,8 +8,8 @@ use Rattle.avro_schema_names.specs.Draft.{data_at}
 use Rattle.serde_json.specs.declared.value.Value.{Value}
 use Rattle.avro_schema_paths.specs.Parts.{InForm, InHeld, field_steps, member_steps, type_in}
 use Rattle.avro_schema_paths.specs.Places.{Path, types_at, item_at, value_at}
-use Rattle.avro_schema_names.specs.Word.{form_of}
-use Rattle.avro_schema_names.specs.declared.word.Form.TheVariants as forms
+use Rattle.spec_schema.specs.Word.{form_of}
+use Rattle.spec_schema.specs.declared.word.Form.TheVariants as forms
 use Rattle.avro_schema_paths.specs.declared.step.Step.{Step}
 use Rattle.avro_schema_paths.specs.Adds.{IsThis, Adds}
 use Rattle.avro_schema_paths.proofs.Parting.{wrapped_added, array_added, field_more, fields_added, form_added, held_added, map_added, member_more, no_fields, no_members, object_added, other_added, record_added, scalar_none, union_added}
@@ -57,32 +57,32 @@ add_object-add_wrapped-requires t c =
 
 pub add_object-returns-in-Record : goal.add_object-returns-in-Record
 add_object-returns-in-Record t c =
-    let form = sym (ap form_of c.get.ensures) ∙ sym c.of_type.ensures ∙ c.in-Record.is in
+    let form = sym (ap form_of c.get.ensures) ∙ sym c.form_of_type.ensures ∙ c.in-Record.is in
     on_ok c.add_record.result (λ p. form_added c.args.nodes.now forms.Record (view c.args.value.now) c.args.node c.args.place.now.outer.now c.args.place.now.path.now c.args.out.now.items c.add_record.new.out.items form (record_added c.args.nodes.now (view c.args.value.now) _ c.args.node c.args.place.now.outer.now c.args.place.now.path.now c.args.out.now.items c.add_record.new.out.items c.get-in-Record.ensures p)) c.add_record.ensures
 
 pub add_object-returns-in-Array : goal.add_object-returns-in-Array
 add_object-returns-in-Array t c =
-    let form = sym (ap form_of c.get.ensures) ∙ sym c.of_type.ensures ∙ c.in-Array.is in
+    let form = sym (ap form_of c.get.ensures) ∙ sym c.form_of_type.ensures ∙ c.in-Array.is in
     on_ok c.add_array.result (λ p. form_added c.args.nodes.now forms.Array (view c.args.value.now) c.args.node c.args.place.now.outer.now c.args.place.now.path.now c.args.out.now.items c.add_array.new.out.items form (array_added c.args.nodes.now (view c.args.value.now) _ c.args.node c.args.place.now.outer.now c.args.place.now.path.now c.args.out.now.items c.add_array.new.out.items c.get-in-Array.ensures p)) c.add_array.ensures
 
 pub add_object-returns-in-Map : goal.add_object-returns-in-Map
 add_object-returns-in-Map t c =
-    let form = sym (ap form_of c.get.ensures) ∙ sym c.of_type.ensures ∙ c.in-Map.is in
+    let form = sym (ap form_of c.get.ensures) ∙ sym c.form_of_type.ensures ∙ c.in-Map.is in
     on_ok c.add_map.result (λ p. form_added c.args.nodes.now forms.Map (view c.args.value.now) c.args.node c.args.place.now.outer.now c.args.place.now.path.now c.args.out.now.items c.add_map.new.out.items form (map_added c.args.nodes.now (view c.args.value.now) _ c.args.node c.args.place.now.outer.now c.args.place.now.path.now c.args.out.now.items c.add_map.new.out.items c.get-in-Map.ensures p)) c.add_map.ensures
 
 pub add_object-returns-in-Other : goal.add_object-returns-in-Other
 add_object-returns-in-Other t c =
-    let form = sym (ap form_of c.get.ensures) ∙ sym c.of_type.ensures ∙ c.in-Other.is in
+    let form = sym (ap form_of c.get.ensures) ∙ sym c.form_of_type.ensures ∙ c.in-Other.is in
     on_ok c.add_wrapped.result (λ p. form_added c.args.nodes.now forms.Other (view c.args.value.now) c.args.node c.args.place.now.outer.now c.args.place.now.path.now c.args.out.now.items c.add_wrapped.new.out.items form (other_added c.args.nodes.now (view c.args.value.now) _ c.args.node c.args.place.now.outer.now c.args.place.now.path.now c.args.out.now.items c.add_wrapped.new.out.items c.get-in-Other.ensures p)) c.add_wrapped.ensures
 
 pub add_object-returns-in-Enum : goal.add_object-returns-in-Enum
 add_object-returns-in-Enum t c =
-    let form = sym (ap form_of c.get.ensures) ∙ sym c.of_type.ensures ∙ c.in-Enum.is in
+    let form = sym (ap form_of c.get.ensures) ∙ sym c.form_of_type.ensures ∙ c.in-Enum.is in
     on_ok c.add_node.result (λ p. form_added c.args.nodes.now forms.Enum (view c.args.value.now) c.args.node c.args.place.now.outer.now c.args.place.now.path.now c.args.out.now.items c.add_node.new.out.items form (adds_same _ (InForm c.args.nodes.now forms.Enum (view c.args.value.now) c.args.node c.args.place.now.outer.now c.args.place.now.path.now) _ _ (λ m q h. h) (λ m q h. h) p)) c.add_node.ensures
 
 pub add_object-returns-in-Fixed : goal.add_object-returns-in-Fixed
 add_object-returns-in-Fixed t c =
-    let form = sym (ap form_of c.get.ensures) ∙ sym c.of_type.ensures ∙ c.in-Fixed.is in
+    let form = sym (ap form_of c.get.ensures) ∙ sym c.form_of_type.ensures ∙ c.in-Fixed.is in
     on_ok c.add_node-in-Fixed.result (λ p. form_added c.args.nodes.now forms.Fixed (view c.args.value.now) c.args.node c.args.place.now.outer.now c.args.place.now.path.now c.args.out.now.items c.add_node-in-Fixed.new.out.items form (adds_same _ (InForm c.args.nodes.now forms.Fixed (view c.args.value.now) c.args.node c.args.place.now.outer.now c.args.place.now.path.now) _ _ (λ m q h. h) (λ m q h. h) p)) c.add_node-in-Fixed.ensures
 
 pub add_wrapped-returns-in_ok-path-in-Some : goal.add_wrapped-returns-in_ok-path-in-Some

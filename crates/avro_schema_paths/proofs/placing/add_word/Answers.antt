@@ -1,6 +1,6 @@
 -- A primitive type's name is the node; another word declares nothing.
 use Rattle.std.proofs.Common.{◌≡◌, ◌∙◌, sym, true, false, is_some}
-use Rattle.avro_schema_names.specs.Word.{leaf_of, word_of}
+use Rattle.spec_schema.specs.Word.{leaf_of, word_of}
 use Rattle.avro_schema_paths.specs.Adds.{IsThis}
 use Rattle.avro_schema_paths.proofs.Inverting.{word_only, word_there}
 use Rattle.avro_schema_paths.proofs.Adding.{on_ok, adds_none, adds_same}

@@ -1,5 +1,5 @@
 use Rattle.std.proofs.Common.{◌≡◌, ◌^◌, true, false}
-use Rattle.assembler.specs.Words.{is_numeral}
+use Rattle.spec_machine.specs.ListingWords.{is_numeral}
 use Rattle.command_io.proofs.Numerals.{no_number, parsed}
 use Rattle.command_io.proofs.numbers.number_of.Goals as goal
 

@@ -1,5 +1,5 @@
 use Rattle.std.proofs.Common.{◌≡◌}
-use Rattle.assembler.specs.Words.{words}
+use Rattle.spec_machine.specs.ListingWords.{words}
 use Rattle.command_io.proofs.Parts.{no_words, text_words}
 use Rattle.command_io.proofs.words.first_word.Goals as goal
 

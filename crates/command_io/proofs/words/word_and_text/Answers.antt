@@ -1,5 +1,5 @@
 use Rattle.std.proofs.Common.{rules}
-use Rattle.command_io.specs.Words.{word_and_text}
+use Rattle.spec_lines.specs.Words.{word_and_text}
 use Rattle.command_io.proofs.Parts.{text_left}
 use Rattle.command_io.proofs.words.word_and_text.Goals as goal
 

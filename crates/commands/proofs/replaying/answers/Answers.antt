@@ -1,6 +1,6 @@
 -- One line more, and no line more.
-use Rattle.session_core.specs.World.{no_world}
-use Rattle.commands.specs.Replaying.{AnswersLine}
+use Rattle.spec_sessions.specs.World.{no_world}
+use Rattle.spec_lines.specs.Replaying.{AnswersLine}
 use Rattle.commands.proofs.Folding.{continues-all, continues-one}
 use Rattle.commands.proofs.replaying.answers.Goals as goal
 

@@ -1,8 +1,8 @@
 -- What is answered so far goes before the answers of the lines that are left.
 use Rattle.std.proofs.Common.{string_bytes, length}
-use Rattle.command_io.specs.Lines.{lines}
-use Rattle.session_core.specs.World.{no_world}
-use Rattle.commands.specs.Replaying.{AnswersLine}
+use Rattle.spec_lines.specs.Lines.{lines}
+use Rattle.spec_sessions.specs.World.{no_world}
+use Rattle.spec_lines.specs.Replaying.{AnswersLine}
 use Rattle.commands.proofs.Folding.{Continues}
 use Rattle.commands.proofs.replaying.answers.Given as goal
 

@@ -1,8 +1,8 @@
 -- What is answered so far goes before the answers of the lines that are left.
 use Rattle.std.proofs.Common.{string_bytes, length}
 use Rattle.commands.proofs.Answers.{Continues}
-use Rattle.command_io.specs.Lines.{lines}
-use Rattle.commands.specs.Running.{IsRunLine}
+use Rattle.spec_lines.specs.Lines.{lines}
+use Rattle.spec_lines.specs.Running.{IsRunLine}
 use Rattle.commands.proofs.running.answers.Given as goal
 
 abbrev pub invariant-loop-line : goal.invariant-loop-line

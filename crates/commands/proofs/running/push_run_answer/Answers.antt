@@ -1,9 +1,9 @@
 -- A payload that passes the limit, and one that is run.
 use Rattle.std.proofs.Common.{◌∙◌, ap, subst, sym}
 use Rattle.std.specs.List.{concat}
-use Rattle.isa.specs.State.{State}
+use Rattle.spec_machine.specs.State.{State}
 use Rattle.machine_stepper.specs.Running.{Running}
-use Rattle.commands.specs.Running.{StopsIn}
+use Rattle.spec_lines.specs.Running.{StopsIn}
 use Rattle.commands.proofs.PiecesLeft.{large_written, run_written}
 use Rattle.commands.proofs.running.push_run_answer.Goals as goal
 

@@ -1,5 +1,5 @@
 -- One line more, and no line more.
-use Rattle.commands.specs.Debugging.{AnswersCommand, given}
+use Rattle.spec_lines.specs.Debugging.{AnswersCommand, given}
 use Rattle.commands.proofs.Folding.{continues-all, continues-one}
 use Rattle.commands.proofs.session_debugging.answers.Goals as goal
 

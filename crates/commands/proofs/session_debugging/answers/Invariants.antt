@@ -1,7 +1,7 @@
 -- What is answered so far goes before the answers of the lines that are left.
 use Rattle.std.proofs.Common.{string_bytes, length}
-use Rattle.command_io.specs.Lines.{lines}
-use Rattle.commands.specs.Debugging.{AnswersCommand, given}
+use Rattle.spec_lines.specs.Lines.{lines}
+use Rattle.spec_lines.specs.Debugging.{AnswersCommand, given}
 use Rattle.commands.proofs.Folding.{Continues}
 use Rattle.commands.proofs.session_debugging.answers.Given as goal
 

@@ -1,8 +1,8 @@
 -- What is answered so far goes before the answers of the lines that are left, and the pair stays.
 use Rattle.std.proofs.Common.{◌≡◌, string_bytes, length}
-use Rattle.command_io.specs.Answer.{IsAnswer}
+use Rattle.spec_lines.specs.Answer.{IsAnswer}
 use Rattle.commands.proofs.Answers.{Continues}
-use Rattle.command_io.specs.Lines.{lines}
+use Rattle.spec_lines.specs.Lines.{lines}
 use Rattle.commands.proofs.transcode.answers.Given as goal
 
 abbrev pub invariant-loop-line : goal.invariant-loop-line

@@ -1,6 +1,6 @@
 use Rattle.std.proofs.Common.{reverse}
 use Rattle.std.specs.Prelude.{string_bytes}
-use Rattle.debugger.specs.Show.{call_line}
+use Rattle.spec_lines.specs.Show.{call_line}
 use Rattle.debugger.proofs.Lines.{one_more}
 use Rattle.debugger.proofs.frames.push_calls.Goals as goal
 

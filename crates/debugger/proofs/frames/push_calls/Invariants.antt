@@ -1,7 +1,7 @@
 use Rattle.std.proofs.Common.{◌≡◌, ◌++◌, reverse, take}
 use Rattle.std.specs.List.{flat_map}
 use Rattle.std.specs.Prelude.{string_bytes}
-use Rattle.debugger.specs.Show.{call_line}
+use Rattle.spec_lines.specs.Show.{call_line}
 use Rattle.debugger.proofs.frames.push_calls.Given as goal
 
 abbrev pub invariant-loop-number : goal.invariant-loop-number

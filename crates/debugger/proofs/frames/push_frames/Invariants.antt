@@ -1,7 +1,7 @@
 use Rattle.std.proofs.Common.{◌≡◌, ◌++◌, reverse, take}
 use Rattle.std.specs.List.{flat_map}
 use Rattle.std.specs.Prelude.{string_bytes}
-use Rattle.debugger.specs.Show.{frame_line}
+use Rattle.spec_lines.specs.Show.{frame_line}
 use Rattle.debugger.proofs.frames.push_frames.Given as goal
 
 abbrev pub invariant-loop-number : goal.invariant-loop-number

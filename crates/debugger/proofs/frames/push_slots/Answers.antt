@@ -1,7 +1,7 @@
 use Rattle.std.proofs.Common.{reverse, slice_get}
 use Rattle.std.specs.Prelude.{string_bytes}
 use Rattle.machine_store.specs.Viewing.{slots_in}
-use Rattle.debugger.specs.Words.{bytes}
+use Rattle.spec_lines.specs.ShownWords.{bytes}
 use Rattle.debugger.proofs.Lines.{one_more_there}
 use Rattle.debugger.proofs.frames.push_slots.Goals as goal
 

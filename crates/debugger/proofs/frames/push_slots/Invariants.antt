@@ -2,7 +2,7 @@ use Rattle.std.proofs.Common.{◌≡◌, ◌++◌, reverse, slice_get, take}
 use Rattle.std.specs.List.{flat_map}
 use Rattle.std.specs.Prelude.{string_bytes}
 use Rattle.machine_store.specs.Viewing.{slots_in}
-use Rattle.debugger.specs.Words.{bytes}
+use Rattle.spec_lines.specs.ShownWords.{bytes}
 use Rattle.debugger.proofs.frames.push_slots.Given as goal
 
 abbrev pub invariant-loop-slot : goal.invariant-loop-slot

@@ -1,7 +1,7 @@
 use Rattle.std.proofs.Common.{◌++◌, refl, subst, arith}
 use Rattle.std.proofs.lemmas.List.{length-append}
-use Rattle.avro_bytes.specs.Outcome.{outcome_of}
-use Rattle.avro_bytes.specs.declared.payload.Outcome as rust
+use Rattle.spec_avro.specs.Outcome.{outcome_of}
+use Rattle.spec_avro.specs.declared.outcome.Outcome as rust
 use Rattle.spec_avro.specs.PayloadOutcome.{IsOutcome}
 use Rattle.embedding.proofs.owning.report_of.Goals as goal
 

@@ -3,7 +3,7 @@ use Rattle.std.proofs.Common.{◌≡◌, ℕ, ◌∙◌, sym, inr, subst, arith,
 use Rattle.gateway_core.specs.Gates.{Asked, never, once_more}
 use Rattle.session_pool_slots.specs.Words.{with_worker}
 use Rattle.session_pool.specs.Seats.{Finds, IsPassOf, KeepsOthers}
-use Rattle.session_pool.specs.Pass.{Pass}
+use Rattle.spec_sessions.specs.Pass.{Pass}
 use Rattle.gateway.specs.declared.ending.TheConstants.{MOST_ABANDONS}
 use Rattle.gateway.specs.Stopping.{FindsBusy, no_call, one_more}
 use Rattle.gateway.proofs.Leaving.{others_on}

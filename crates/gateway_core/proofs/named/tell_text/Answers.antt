@@ -1,8 +1,8 @@
 -- The schema that the text is of.
 use Rattle.std.proofs.Common.{ℕ, List, inr, refl, ap, ◌∙◌}
 use Rattle.serde_json.specs.Written.{compact_text}
-use Rattle.gateway_requests.specs.Answer.{Replied}
-use Rattle.gateway_requests.specs.Replies.{schema_data}
+use Rattle.spec_service.specs.Answer.{Replied}
+use Rattle.spec_service.specs.Replies.{schema_data}
 use Rattle.gateway_core.proofs.named.tell_text.Goals as goal
 
 pub returns-in_ok-schema_text-in-Ok : goal.returns-in_ok-schema_text-in-Ok

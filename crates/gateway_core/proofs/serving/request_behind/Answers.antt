@@ -1,8 +1,8 @@
 -- What is asked by the head, the path and the body.
 use Rattle.std.proofs.Common.{◌≡◌, Ok, Err, drop, refl, ap, ◌∙◌}
 use Rattle.std.proofs.lemmas.List.{take_rest}
-use Rattle.gateway_requests.specs.Asking.{chosen}
-use Rattle.gateway_requests.specs.Path.{path_of}
+use Rattle.spec_service.specs.Asking.{chosen}
+use Rattle.spec_service.specs.Path.{path_of}
 use Rattle.gateway_core.proofs.Asked.{fault_asks, memory_asks, request_asks}
 use Rattle.gateway_core.proofs.serving.request_behind.Goals as goal
 

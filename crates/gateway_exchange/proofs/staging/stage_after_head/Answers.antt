@@ -2,8 +2,8 @@
 use Rattle.std.proofs.Common.{◌≡◌, ◌∙◌, Ok, Err}
 use Rattle.std.proofs.lemmas.List.{take_rest}
 use Rattle.gateway_requests.proofs.Fronts.{is_allowed}
-use Rattle.gateway_requests.specs.Front.{IsAllowed}
-use Rattle.gateway_requests.specs.Asking.{chosen}
+use Rattle.spec_service.specs.Front.{IsAllowed}
+use Rattle.spec_service.specs.Asking.{chosen}
 use Rattle.gateway_exchange.proofs.Receiving.{after_head, fault_each, is_head, memory_each}
 use Rattle.gateway_exchange.proofs.staging.stage_after_head.Goals as goal
 

@@ -2,7 +2,7 @@
 use Rattle.std.proofs.Common.{◌≡◌, ◌≤◌, ◌∙◌, length, sym, arith, rules}
 use Rattle.httparse.specs.Grammar.{HasNoRequest}
 use Rattle.httparse.specs.Spans.{RequestOverflows}
-use Rattle.gateway_requests.specs.declared.limits.TheConstants.{MOST_FIELDS, MOST_HEAD}
+use Rattle.spec_service.specs.declared.limits.TheConstants.{MOST_FIELDS, MOST_HEAD}
 use Rattle.gateway_exchange.specs.Stages.{IsAfterHead, is_refused}
 use Rattle.gateway_exchange.proofs.Receiving.{full_each, overflow_each, refused_stands}
 use Rattle.gateway_exchange.proofs.staging.stage_of.Goals as goal

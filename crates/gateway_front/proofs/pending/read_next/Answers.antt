@@ -1,8 +1,8 @@
 -- The request asks what its method, its target and its content ask.
 use Rattle.std.proofs.Common.{◌≡◌, IfOk, Result, subst, sym}
-use Rattle.gateway_requests.specs.declared.fault.Fault.{Fault}
-use Rattle.persistent_exchange.specs.Answering.{IsNext}
-use Rattle.persistent_exchange.specs.Stream.{Asked, asked_of}
+use Rattle.spec_service.specs.declared.fault.Fault.{Fault}
+use Rattle.spec_service.specs.StreamAnswering.{IsNext}
+use Rattle.spec_service.specs.Stream.{Asked, asked_of}
 use Rattle.gateway_front.proofs.Asking.{asked_next}
 use Rattle.gateway_front.proofs.pending.read_next.Goals as goal
 

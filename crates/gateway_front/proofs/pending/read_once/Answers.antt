@@ -1,6 +1,6 @@
 -- The tag has the bytes that were received.
 use Rattle.std.proofs.Common.{ℕ, List, [], None, Err, subst, sym, arith}
-use Rattle.gateway_requests.specs.declared.fault.Fault.TheVariants.{NoMemory}
+use Rattle.spec_service.specs.declared.fault.Fault.TheVariants.{NoMemory}
 use Rattle.gateway_front.specs.Handing.{AsksOver}
 use Rattle.gateway_front.proofs.Asking.{asked_by_bytes}
 use Rattle.gateway_front.proofs.pending.read_once.Goals as goal

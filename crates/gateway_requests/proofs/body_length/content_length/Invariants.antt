@@ -1,7 +1,7 @@
 -- The length after the fields so far, and those to come, give the length.
 use Rattle.std.proofs.Common.{◌≡◌, drop, map, option_map}
 use Rattle.httparse.specs.Spans.{header_bytes}
-use Rattle.gateway_requests.specs.ContentLength.{declared_length, length_from}
+use Rattle.spec_service.specs.ContentLength.{declared_length, length_from}
 use Rattle.gateway_requests.proofs.body_length.content_length.Given as goal
 
 abbrev pub invariant-loop-header : goal.invariant-loop-header

@@ -1,6 +1,6 @@
 -- The digits to come, after the bounded number of those that were read, spell the same number up to the bound.
 use Rattle.std.proofs.Common.{◌≡◌, ◌≤◌, drop, min}
-use Rattle.gateway_requests.specs.Digits.{number_after, number}
+use Rattle.spec_service.specs.Digits.{number_after, number}
 use Rattle.gateway_requests.proofs.digits.number_up_to.Given as goal
 
 abbrev pub invariant-loop-digit : goal.invariant-loop-digit

@@ -1,6 +1,6 @@
 -- The zeros so far are passed over.
 use Rattle.std.proofs.Common.{◌≡◌, ◌≤◌, ◌-◌, drop, length}
-use Rattle.gateway_requests.specs.Digits.{significant_digits}
+use Rattle.spec_service.specs.Digits.{significant_digits}
 use Rattle.gateway_requests.proofs.digits.significant_digits.Given as goal
 
 abbrev pub invariant-loop-zeros : goal.invariant-loop-zeros

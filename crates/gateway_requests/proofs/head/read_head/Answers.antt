@@ -2,7 +2,7 @@
 use Rattle.std.proofs.Common.{rules, arith, ◌≡◌, ◌∙◌, length, ◌+◌, take}
 use Rattle.std.proofs.lemmas.List.{length-take}
 use Rattle.httparse.specs.Spans.{IsRequestOf, IsRequestWithin}
-use Rattle.gateway_requests.specs.declared.limits.TheConstants.{MOST_HEAD}
+use Rattle.spec_service.specs.declared.limits.TheConstants.{MOST_HEAD}
 use Rattle.gateway_requests.proofs.Fronts.{some_none, taken_more, is_allowed, none_by_room}
 use Rattle.gateway_requests.proofs.head.read_head.Goals as goal
 

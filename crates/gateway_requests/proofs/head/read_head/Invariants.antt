@@ -1,7 +1,7 @@
 -- The bytes that were received are those that the reader gave, and begin with no head.
 use Rattle.std.proofs.Common.{◌≤◌, ◌-◌, ◌≡◌, length, take}
 use Rattle.std.specs.Io.KnownBytes.{Consumes}
-use Rattle.gateway_requests.specs.declared.limits.TheConstants.{MOST_FIELDS, MOST_HEAD}
+use Rattle.spec_service.specs.declared.limits.TheConstants.{MOST_FIELDS, MOST_HEAD}
 use Rattle.gateway_requests.proofs.Fronts.{NoneYet}
 use Rattle.gateway_requests.proofs.head.read_head.Given as goal
 

@@ -1,8 +1,8 @@
 -- The level of a name, or none.
 use Rattle.std.proofs.Common.{◌≡◌, Some, None, sym, ap}
 use Rattle.std.specs.Option.{ok_or}
-use Rattle.gateway_requests.specs.declared.fault.Fault.TheVariants.{BadLevel}
-use Rattle.schema_registry.specs.Level.{level_named}
+use Rattle.spec_service.specs.declared.fault.Fault.TheVariants.{BadLevel}
+use Rattle.spec_registry.specs.Level.{level_named}
 use Rattle.schema_registry.proofs.Levels.{level-read}
 use Rattle.gateway_requests.proofs.json_body.known_level.Goals as goal
 

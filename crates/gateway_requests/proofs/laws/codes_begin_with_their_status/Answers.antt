@@ -1,9 +1,9 @@
 -- Fault by fault.
 use Rattle.std.proofs.Common.{◌≡◌, ◌⊎◌, ◌/◌, inl, inr, refl}
-use Rattle.gateway_requests.specs.Fault.{code_of, status_of}
-use Rattle.gateway_requests.specs.Status.{number_of}
-use Rattle.gateway_requests.specs.declared.fault.Fault.{Fault}
-use Rattle.gateway_requests.specs.declared.fault.Fault.TheVariants as faults
+use Rattle.spec_service.specs.Fault.{code_of, status_of}
+use Rattle.spec_service.specs.Status.{number_of}
+use Rattle.spec_service.specs.declared.fault.Fault.{Fault}
+use Rattle.spec_service.specs.declared.fault.Fault.TheVariants as faults
 use Rattle.gateway_requests.proofs.laws.codes_begin_with_their_status.Goals as goal
 
 begins : (fault : Fault) → (code_of fault ≡ number_of (status_of fault)) ⊎ (code_of fault / 100 ≡ number_of (status_of fault))

@@ -1,6 +1,6 @@
 -- The path is text.
 use Rattle.std.proofs.Common.{IsUtf8}
-use Rattle.gateway_requests.specs.Path.{path_of}
+use Rattle.spec_service.specs.Path.{path_of}
 use Rattle.gateway_requests.proofs.Targets.{path_is_text}
 use Rattle.gateway_requests.proofs.path.path_of.Goals as goal
 

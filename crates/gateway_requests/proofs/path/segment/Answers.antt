@@ -1,6 +1,6 @@
 -- One slash more.
 use Rattle.std.proofs.Common.{◌≡◌, ◌+◌, ◌-◌, arith, ◌∙◌, ap}
-use Rattle.gateway_requests.specs.Path.{segment}
+use Rattle.spec_service.specs.Path.{segment}
 use Rattle.gateway_requests.proofs.Targets.{segment_behind}
 use Rattle.gateway_requests.proofs.path.segment.Goals as goal
 

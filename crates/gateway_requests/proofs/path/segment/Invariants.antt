@@ -1,6 +1,6 @@
 -- The segment after the slashes that are left.
 use Rattle.std.proofs.Common.{◌≡◌}
-use Rattle.gateway_requests.specs.Path.{segment}
+use Rattle.spec_service.specs.Path.{segment}
 use Rattle.gateway_requests.proofs.path.segment.Given as goal
 
 abbrev pub invariant-loop-left : goal.invariant-loop-left

@@ -1,5 +1,5 @@
 use Rattle.std.proofs.Common.{◌≡◌}
-use Rattle.schema_registry.specs.Receipt.{IsReceiptOf}
+use Rattle.spec_registry.specs.Receipt.{IsReceiptOf}
 use Rattle.session_pool.specs.Seats.{Rests}
 use Rattle.gateway_tests.proofs.refusals.takes_all.Given as goal
 

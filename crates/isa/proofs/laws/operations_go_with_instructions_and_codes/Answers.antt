@@ -1,5 +1,5 @@
 use Rattle.std.proofs.Common.{◌∙◌, ap, sym}
-use Rattle.isa.specs.Operation.{at_code}
+use Rattle.spec_machine.specs.Operation.{at_code}
 use Rattle.isa.proofs.Operations.{coded, found, made, same}
 use Rattle.isa.proofs.laws.operations_go_with_instructions_and_codes.Goals as goal
 

@@ -1,5 +1,5 @@
 use Rattle.std.proofs.Common.{◌≡◌, drop}
-use Rattle.isa.specs.Judging.{first_out_from, first_out_in}
+use Rattle.spec_machine.specs.Judging.{first_out_from, first_out_in}
 use Rattle.isa.proofs.range.first_out_in.Given as goal
 
 abbrev pub invariant-loop-number : goal.invariant-loop-number

@@ -1,7 +1,7 @@
 -- One statement more, one that is too far, and none left.
 use Rattle.std.proofs.Common.{◌∙◌, ◌++◌, sym, ap, append-nil}
 use Rattle.std.proofs.Math.ListN.{drop_of_length-le}
-use Rattle.program_definition.specs.Numbering.{jumps_from}
+use Rattle.spec_machine.specs.Numbering.{jumps_from}
 use Rattle.program_ir.specs.Statements.{statements_in}
 use Rattle.program_compiler.proofs.Jumps.{at_none, jumps_on, jumps_wide}
 use Rattle.program_compiler.proofs.Linked.{at_some}

@@ -1,7 +1,7 @@
 -- The tables so far, before those of the statements that are left, are all of them.
 use Rattle.std.proofs.Common.{◌≡◌, ◌++◌, drop, List}
 use Rattle.spec_avro.specs.Node.{Node}
-use Rattle.program_definition.specs.Numbering.{jumps_from}
+use Rattle.spec_machine.specs.Numbering.{jumps_from}
 use Rattle.program_ir.specs.Statements.{statements_in}
 use Rattle.program_compiler.proofs.addresses.gather_jumps.Given as goal
 

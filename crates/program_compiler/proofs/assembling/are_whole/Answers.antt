@@ -1,7 +1,7 @@
 -- One statement more, one that is lost, and none left.
 use Rattle.std.proofs.Common.{◌∙◌, sym, ap}
 use Rattle.std.proofs.Math.ListN.{drop_of_length-le}
-use Rattle.program_definition.specs.Code.{are_whole}
+use Rattle.spec_machine.specs.Code.{are_whole}
 use Rattle.program_ir.specs.Statements.{statements_in}
 use Rattle.program_compiler.proofs.Assembled.{statement_is_lost, statement_is_whole}
 use Rattle.program_compiler.proofs.assembling.are_whole.Goals as goal

@@ -1,7 +1,7 @@
 -- The statements left are whole just where all are.
 use Rattle.std.proofs.Common.{◌≡◌, drop, List}
 use Rattle.spec_avro.specs.Node.{Node}
-use Rattle.program_definition.specs.Code.{are_whole}
+use Rattle.spec_machine.specs.Code.{are_whole}
 use Rattle.program_ir.specs.Statements.{statements_in}
 use Rattle.program_compiler.proofs.assembling.are_whole.Given as goal
 

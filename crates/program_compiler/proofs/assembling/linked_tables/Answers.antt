@@ -1,6 +1,6 @@
 -- Where a limit is passed there is no program, and else all is that of all statements.
 use Rattle.std.proofs.Common.{sym, ap, ◌∙◌}
-use Rattle.program_definition.specs.Numbering.{constants_in, misses_in}
+use Rattle.spec_machine.specs.Numbering.{constants_in, misses_in}
 use Rattle.program_ir.specs.Statements.{statements_in}
 use Rattle.program_compiler.specs.Walking.{start_at}
 use Rattle.program_compiler.proofs.Assembled.{code_is, jumps_are, many_misses, maps_are, none_assembled, wide_statements}

@@ -1,6 +1,6 @@
 -- Where a limit is passed there is no program.
 use Rattle.std.proofs.Common.{ap, ◌∙◌}
-use Rattle.program_definition.specs.Numbering.{constants_in}
+use Rattle.spec_machine.specs.Numbering.{constants_in}
 use Rattle.program_ir.specs.Statements.{statements_in}
 use Rattle.program_compiler.specs.Walking.{start_at}
 use Rattle.program_compiler.proofs.Assembled.{long_statements, many_statements, not_whole, whole_of}

@@ -1,6 +1,6 @@
 -- What is linked, with the constants and the misses.
 use Rattle.std.proofs.Common.{◌∙◌}
-use Rattle.program_definition.specs.Numbering.{numbered}
+use Rattle.spec_machine.specs.Numbering.{numbered}
 use Rattle.program_ir.specs.Statements.{statements_in}
 use Rattle.program_compiler.specs.Walking.{start_at}
 use Rattle.program_compiler.proofs.Assembled.{linked_parts, misses_are, none_linked}

@@ -1,6 +1,6 @@
 -- A program that was taken is the pair's, and where there is none the pair has none.
 use Rattle.std.proofs.Common.{◌∙◌, sym, subst}
-use Rattle.isa.specs.Range.{IsProgram}
+use Rattle.spec_machine.specs.Range.{IsProgram}
 use Rattle.program_compiler.proofs.Compiled.{compiled, none_compiled, none_of_parts, refused, taken_parts, walked}
 use Rattle.program_compiler.proofs.compiling.compile.Goals as goal
 

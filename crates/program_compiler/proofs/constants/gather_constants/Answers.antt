@@ -2,7 +2,7 @@
 use Rattle.std.proofs.Common.{◌∙◌, sym, ap}
 use Rattle.std.specs.Str.{bytes_eq}
 use Rattle.std.proofs.Math.ListN.{drop_of_length-le}
-use Rattle.program_definition.specs.Numbering.{adding, constants_of, named_in}
+use Rattle.spec_machine.specs.Numbering.{adding, constants_of, named_in}
 use Rattle.program_ir.specs.Statements.{statements_in}
 use Rattle.program_compiler.proofs.Jumps.{at_none}
 use Rattle.program_compiler.proofs.Linked.{at_some, long_statement}

@@ -2,7 +2,7 @@
 use Rattle.std.proofs.Common.{◌≡◌, drop, List}
 use Rattle.std.specs.Str.{bytes_eq}
 use Rattle.spec_avro.specs.Node.{Node}
-use Rattle.program_definition.specs.Numbering.{adding, constants_in, constants_of, named_in}
+use Rattle.spec_machine.specs.Numbering.{adding, constants_in, constants_of, named_in}
 use Rattle.program_ir.specs.Statements.{statements_in}
 use Rattle.program_compiler.specs.Tables.{AreDefaults}
 use Rattle.program_compiler.proofs.constants.gather_constants.Given as goal

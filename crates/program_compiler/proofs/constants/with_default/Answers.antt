@@ -1,7 +1,7 @@
 -- A default that came before adds nothing, and another has the number of its bytes.
 use Rattle.std.proofs.Common.{◌≡◌, ◌∷◌, ◌∙◌, [], ap, sym, refl}
 use Rattle.std.specs.Str.{bytes_eq}
-use Rattle.program_definition.specs.Numbering.{adding, number}
+use Rattle.spec_machine.specs.Numbering.{adding, number}
 use Rattle.program_ir.specs.declared.statements.Constant.TheVariants.{Default}
 use Rattle.program_ir.specs.Statements.{bytes_of}
 use Rattle.program_compiler.proofs.Defaults.{default_before, defaults_on}

@@ -2,7 +2,7 @@
 use Rattle.std.proofs.Common.{◌≡◌, ◌∙◌, ◌++◌, ◌∷◌, [], sym, ap, subst, append-nil, rules, arith}
 use Rattle.std.proofs.Math.ListN.{drop_of_length-le}
 use Rattle.std.specs.Prelude.{Err}
-use Rattle.program_definition.specs.Numbering.{code_from, constants_of, linked}
+use Rattle.spec_machine.specs.Numbering.{code_from, constants_of, linked}
 use Rattle.program_ir.specs.Statements.{statement_of, statements_in}
 use Rattle.program_compiler.specs.Walking.{start_at}
 use Rattle.program_compiler.specs.Parts.{LinksAll, LinksTo}

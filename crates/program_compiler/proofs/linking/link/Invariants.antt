@@ -1,7 +1,7 @@
 -- The code so far, before that of the statements that are left, is all of it.
 use Rattle.std.proofs.Common.{◌≡◌, ◌≤◌, ◌++◌, drop, List}
 use Rattle.spec_avro.specs.Node.{Node}
-use Rattle.program_definition.specs.Numbering.{code_from}
+use Rattle.spec_machine.specs.Numbering.{code_from}
 use Rattle.program_ir.specs.Statements.{statements_in}
 use Rattle.program_compiler.specs.Walking.{start_at}
 use Rattle.program_compiler.proofs.linking.link.Given as goal

@@ -2,7 +2,7 @@
 use Rattle.std.proofs.Common.{◌≡◌, Some, ap, sym, ◌∙◌, rules}
 use Rattle.std.specs.BTreeMap.{get}
 use Rattle.std.specs.Str.{bytes_eq}
-use Rattle.program_definition.specs.Numbering.{number}
+use Rattle.spec_machine.specs.Numbering.{number}
 use Rattle.program_ir.specs.Statements.{bytes_of}
 use Rattle.program_ir.specs.Sections.{pair_cmp}
 use Rattle.program_compiler.proofs.Defaults.{its_number}

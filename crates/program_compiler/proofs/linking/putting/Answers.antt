@@ -1,7 +1,7 @@
 -- The number of the constant's bytes.
 use Rattle.std.proofs.Common.{◌≡◌, ◌∷◌, [], subst}
 use Rattle.std.specs.Str.{bytes_eq}
-use Rattle.program_definition.specs.Numbering.{number}
+use Rattle.spec_machine.specs.Numbering.{number}
 use Rattle.program_ir.specs.Statements.{bytes_of as bytes_of_constant}
 use Rattle.program_compiler.specs.Parts.{Narrows}
 use Rattle.program_compiler.proofs.Linked.{at_some}

@@ -1,7 +1,7 @@
 -- One statement more, and none left.
 use Rattle.std.proofs.Common.{◌∙◌, ◌++◌, sym, ap, map, append-nil}
 use Rattle.std.proofs.Math.ListN.{drop_of_length-le}
-use Rattle.program_definition.specs.Numbering.{entry_of, maps_of, named_in}
+use Rattle.spec_machine.specs.Numbering.{entry_of, maps_of, named_in}
 use Rattle.program_ir.specs.Statements.{statements_in}
 use Rattle.program_compiler.proofs.Jumps.{maps_on}
 use Rattle.program_compiler.proofs.maps.gather_maps.Goals as goal

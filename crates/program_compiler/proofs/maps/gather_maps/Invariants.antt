@@ -1,6 +1,6 @@
 -- The maps so far, before those of the statements that are left, are all of them.
 use Rattle.std.proofs.Common.{◌≡◌, ◌++◌, drop, map}
-use Rattle.program_definition.specs.Numbering.{entry_of, maps_of, named_in}
+use Rattle.spec_machine.specs.Numbering.{entry_of, maps_of, named_in}
 use Rattle.program_ir.specs.Statements.{statements_in}
 use Rattle.program_compiler.specs.Tables.{AreShared}
 use Rattle.program_compiler.proofs.maps.gather_maps.Given as goal

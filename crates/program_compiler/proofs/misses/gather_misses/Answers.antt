@@ -1,7 +1,7 @@
 -- One statement more, and none left.
 use Rattle.std.proofs.Common.{◌∙◌, sym, ap}
 use Rattle.std.proofs.Math.ListN.{drop_of_length-le}
-use Rattle.program_definition.specs.Numbering.{adding, misses_of, named_in, same_miss}
+use Rattle.spec_machine.specs.Numbering.{adding, misses_of, named_in, same_miss}
 use Rattle.program_ir.specs.Statements.{statements_in}
 use Rattle.program_compiler.proofs.Tables.{listed_on}
 use Rattle.program_compiler.proofs.misses.gather_misses.Goals as goal

@@ -1,6 +1,6 @@
 -- The misses so far, with those that the statements left name, are all of them.
 use Rattle.std.proofs.Common.{◌≡◌, drop}
-use Rattle.program_definition.specs.Numbering.{adding, misses_in, misses_of, named_in, same_miss}
+use Rattle.spec_machine.specs.Numbering.{adding, misses_in, misses_of, named_in, same_miss}
 use Rattle.program_ir.specs.Statements.{statements_in}
 use Rattle.program_compiler.specs.Tables.{AreNoted}
 use Rattle.program_compiler.proofs.misses.gather_misses.Given as goal

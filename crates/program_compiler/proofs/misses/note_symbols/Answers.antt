@@ -2,8 +2,8 @@
 use Rattle.std.proofs.Common.{◌∙◌, sym, ap, map}
 use Rattle.std.specs.Prelude.{slice_get, string_bytes}
 use Rattle.std.proofs.Math.ListN.{drop_of_length-le}
-use Rattle.program_definition.specs.Numbering.{adding, lacked, same_miss}
-use Rattle.program_definition.specs.Writing.{target}
+use Rattle.spec_machine.specs.Numbering.{adding, lacked, same_miss}
+use Rattle.spec_machine.specs.Writing.{target}
 use Rattle.program_ir.proofs.Tables.{map_twice}
 use Rattle.program_compiler.proofs.misses.note_symbols.Goals as goal
 

@@ -1,8 +1,8 @@
 -- The misses so far, with those of the symbols left, are all of them.
 use Rattle.std.proofs.Common.{◌≡◌, drop, map}
 use Rattle.std.specs.Prelude.{slice_get, string_bytes}
-use Rattle.program_definition.specs.Numbering.{adding, lacked, same_miss}
-use Rattle.program_definition.specs.Writing.{target}
+use Rattle.spec_machine.specs.Numbering.{adding, lacked, same_miss}
+use Rattle.spec_machine.specs.Writing.{target}
 use Rattle.program_compiler.proofs.misses.note_symbols.Given as goal
 
 abbrev pub invariant-loop-position : goal.invariant-loop-position

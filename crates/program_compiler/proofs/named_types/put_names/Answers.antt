@@ -1,6 +1,6 @@
 -- One alias more.
 use Rattle.std.proofs.Common.{◌≤◌, ◌==◌, ◌+◌, arith, length}
-use Rattle.avro_types.specs.Node.{names_of}
+use Rattle.spec_avro.specs.Node.{names_of}
 use Rattle.program_compiler.specs.NamedTypes.{last_parts, stands_under}
 use Rattle.program_compiler.proofs.NamedTypes.{alias_part, named_on, no_more}
 use Rattle.program_compiler.proofs.named_types.put_names.Goals as goal

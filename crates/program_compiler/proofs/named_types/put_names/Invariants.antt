@@ -1,6 +1,6 @@
 -- The name and the aliases so far.
 use Rattle.std.proofs.Common.{◌≡◌, ◌==◌, ◌&&◌, ◌||◌, ℕ, List, ◌+◌, take}
-use Rattle.avro_types.specs.Node.{names_of}
+use Rattle.spec_avro.specs.Node.{names_of}
 use Rattle.spec_avro.specs.Symbols.{is_used}
 use Rattle.program_compiler.specs.NamedTypes.{last_parts, stands_under}
 use Rattle.program_compiler.proofs.named_types.put_names.Given as goal

@@ -1,7 +1,7 @@
 -- One statement more, and none left.
 use Rattle.std.proofs.Common.{◌∙◌, sym, ap}
 use Rattle.std.proofs.Math.ListN.{drop_of_length-le}
-use Rattle.program_definition.specs.Numbering.{adding, calls_of, named_in, same_section}
+use Rattle.spec_machine.specs.Numbering.{adding, calls_of, named_in, same_section}
 use Rattle.program_ir.specs.Statements.{statements_in}
 use Rattle.program_ir.proofs.Numbered.{calls_on}
 use Rattle.program_ir.proofs.sections.note_calls.Goals as goal

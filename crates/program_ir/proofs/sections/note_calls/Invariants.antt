@@ -1,7 +1,7 @@
 -- The sections so far, with those that the statements left call, are all of them.
 use Rattle.std.proofs.Common.{◌≡◌, List, drop}
 use Rattle.spec_avro.specs.Node.{Node}
-use Rattle.program_definition.specs.Numbering.{adding, calls_of, named_in, same_section}
+use Rattle.spec_machine.specs.Numbering.{adding, calls_of, named_in, same_section}
 use Rattle.program_ir.specs.Statements.{statements_in}
 use Rattle.program_ir.proofs.sections.note_calls.Given as goal
 

@@ -3,7 +3,7 @@ use Rattle.std.proofs.Common.{◌≡◌, ◌∙◌, ◌++◌, ◌-◌, ◌+◌, 
 use Rattle.std.specs.Vec.Iter.{into_iter_items}
 use Rattle.std.proofs.Math.ListN.{drop_of_length-le}
 use Rattle.std.proofs.lemmas.Grind.{common_steps}
-use Rattle.program_definition.specs.Statements.{Branch, begins, one_of}
+use Rattle.spec_machine.specs.Statements.{Branch, begins, one_of}
 use Rattle.program_ir.specs.Statements.{statements_in, parts_in}
 use Rattle.program_ir.proofs.Branched.{branch_put, part_on, room}
 use Rattle.program_ir.proofs.statements.put_branched.Goals as goal

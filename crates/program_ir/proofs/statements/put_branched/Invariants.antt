@@ -3,7 +3,7 @@ use Rattle.std.proofs.Common.{◌≡◌, ◌+◌, ◌≤◌, ◌++◌, List, len
 use Rattle.std.specs.Vec.{vec_capacity}
 use Rattle.std.specs.Vec.Iter.{into_iter_items, into_iter_len}
 use Rattle.spec_avro.specs.Node.{Node}
-use Rattle.program_definition.specs.Statements.{begins, branched, one_of}
+use Rattle.spec_machine.specs.Statements.{begins, branched, one_of}
 use Rattle.program_ir.specs.Statements.{statements_in, parts_in}
 use Rattle.program_ir.proofs.Branched.{room}
 use Rattle.program_ir.proofs.statements.put_branched.Given as goal

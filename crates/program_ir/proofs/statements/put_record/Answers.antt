@@ -1,7 +1,7 @@
 -- The miss, or the call.
 use Rattle.std.proofs.Common.{◌++◌, ◌∷◌, [], ap, sym, ◌∙◌}
 use Rattle.std.proofs.lemmas.Result.{on_ok_weaker}
-use Rattle.program_definition.specs.Statements.{Miss}
+use Rattle.spec_machine.specs.Statements.{Miss}
 use Rattle.program_ir.specs.Statements.{statements_in, record_statement}
 use Rattle.program_ir.proofs.statements.put_record.Goals as goal
 

@@ -3,9 +3,9 @@ use Rattle.std.proofs.Common.{◌≤◌, ◌∙◌, ◌++◌, sym, ap, subst, ma
 use Rattle.std.specs.Prelude.{slice_get, string_bytes}
 use Rattle.std.proofs.Math.ListN.{drop_of_length-le}
 use Rattle.spec_avro.specs.declared.mismatch.MismatchKind.TheVariants as kinds
-use Rattle.program_definition.specs.Statements.{miss}
-use Rattle.program_definition.specs.Numbering.{entry_of, same_miss}
-use Rattle.program_definition.specs.Writing.{target}
+use Rattle.spec_machine.specs.Statements.{miss}
+use Rattle.spec_machine.specs.Numbering.{entry_of, same_miss}
+use Rattle.spec_machine.specs.Writing.{target}
 use Rattle.spec_avro.specs.Resolution.{symbol_for as position_of_symbol}
 use Rattle.program_ir.specs.Tables.{entry_at}
 use Rattle.program_ir.proofs.Tables.{entry_is, map_twice, mapped_on, number_at_most}

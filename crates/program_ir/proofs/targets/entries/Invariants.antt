@@ -1,8 +1,8 @@
 -- The entries so far, before those of the symbols that are left, are all of them.
 use Rattle.std.proofs.Common.{◌≡◌, ◌++◌, drop, map}
 use Rattle.std.specs.Prelude.{slice_get, string_bytes}
-use Rattle.program_definition.specs.Numbering.{entry_of}
-use Rattle.program_definition.specs.Writing.{target}
+use Rattle.spec_machine.specs.Numbering.{entry_of}
+use Rattle.spec_machine.specs.Writing.{target}
 use Rattle.program_ir.proofs.targets.entries.Given as goal
 
 abbrev pub invariant-loop-position : goal.invariant-loop-position

@@ -1,6 +1,6 @@
 use Rattle.std.proofs.Common.{◌≡◌, [], ◌∷◌, List, get_or, sym, ap, ◌∙◌}
 use Rattle.std.proofs.lemmas.List.{append_cancel_left}
-use Rattle.session_core.specs.Session.{Session}
+use Rattle.spec_sessions.specs.Session.{Session}
 use Rattle.session_pool_slots.specs.Steps.{handing}
 use Rattle.session_pool_slots.specs.Views.{Handed}
 use Rattle.session_pool_slots.specs.Seats.{knows}

@@ -1,5 +1,5 @@
 use Rattle.std.proofs.Common.{◌≡◌}
-use Rattle.schema_registry.specs.Receipt.{IsReceiptOf}
+use Rattle.spec_registry.specs.Receipt.{IsReceiptOf}
 use Rattle.session_pool.specs.Seats.{Rests}
 use Rattle.session_pool_tests.proofs.slots.open_all.Given as goal
 

@@ -1,5 +1,5 @@
 use Rattle.std.proofs.Common.{All}
-use Rattle.schema_registry.specs.Receipt.{IsReceiptOf}
+use Rattle.spec_registry.specs.Receipt.{IsReceiptOf}
 use Rattle.session_pool.specs.Seats.{IsNewClient}
 use Rattle.session_pool_tests.proofs.threads.all_asking.Given as goal
 

@@ -1,4 +1,4 @@
-use Rattle.schema_registry.specs.Receipt.{IsReceiptOf}
+use Rattle.spec_registry.specs.Receipt.{IsReceiptOf}
 use Rattle.session_pool.specs.Seats.{Rests}
 use Rattle.session_pool_tests.proofs.threads.ask.Given as goal
 

@@ -1,7 +1,7 @@
 use Rattle.std.proofs.Common.{◌≡◌, ◌∙◌, ◌+◌, ◌++◌, ◌∷◌, [], ℕ, List, length, ap, sym, arith}
 use Rattle.std.proofs.lemmas.List.{append_assoc, length-append}
-use Rattle.command_io.specs.Lines.{lines}
-use Rattle.schema_registry.specs.Command.{Command}
+use Rattle.spec_lines.specs.Lines.{lines}
+use Rattle.spec_registry.specs.Command.{Command}
 use Rattle.store_commands.proofs.Imports.{say_more}
 use Rattle.store_commands.proofs.importing_lines.import_lines.Goals as goal
 

@@ -1,6 +1,6 @@
 use Rattle.std.proofs.Common.{◌≡◌, ◌+◌, ◌≤◌, ◌++◌, ℕ, List, length}
-use Rattle.command_io.specs.Lines.{lines}
-use Rattle.schema_registry.specs.Command.{Command}
+use Rattle.spec_lines.specs.Lines.{lines}
+use Rattle.spec_registry.specs.Command.{Command}
 use Rattle.store_commands.specs.Import.{Say}
 use Rattle.store_commands.proofs.importing_lines.import_lines.Given as goal
 

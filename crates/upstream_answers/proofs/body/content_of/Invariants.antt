@@ -1,6 +1,6 @@
 -- What is waited for at first is what is waited for now, after the content so far.
 use Rattle.std.proofs.Common.{◌≡◌, ◌≤◌, ◌↔◌, ℕ, List, [], length}
-use Rattle.upstream_answers.specs.declared.limits.TheConstants.{MOST_CONTENT, MOST_FIELDS}
+use Rattle.spec_service.specs.declared.upstream_limits.TheConstants.{MOST_CONTENT, MOST_FIELDS}
 use Rattle.upstream_answers.specs.Parts.{HasContent}
 use Rattle.upstream_answers.proofs.body.content_of.Given as goal
 

@@ -1,6 +1,6 @@
 -- The parts in a row.
 use Rattle.std.proofs.Common.{◌≡◌, ℕ, List, ◌++◌, append_assoc, ◌∙◌, ap, codes, string_bytes}
-use Rattle.upstream_answers.specs.Question.{authorization_text, request_line_text}
+use Rattle.spec_service.specs.UpstreamQuestion.{authorization_text, request_line_text}
 use Rattle.upstream_answers.proofs.question.question_of.Goals as goal
 
 -- eight texts, grouped from either end

@@ -2,7 +2,7 @@
 use Rattle.std.proofs.Common.{◌≡◌, ◌≤◌, ◌-◌, length}
 use Rattle.std.specs.Io.KnownBytes.{Consumes}
 use Rattle.upstream_answers.specs.Stages.{IsStageOf}
-use Rattle.upstream_answers.specs.declared.limits.TheConstants.{MOST_ANSWER, MOST_FIELDS}
+use Rattle.spec_service.specs.declared.upstream_limits.TheConstants.{MOST_ANSWER, MOST_FIELDS}
 use Rattle.upstream_answers.proofs.receiving.receive.Given as goal
 
 abbrev pub invariant-reads : goal.invariant-reads

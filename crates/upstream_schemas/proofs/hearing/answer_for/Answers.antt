@@ -1,6 +1,6 @@
 -- The bytes received were heard for the question, and begin with the answer.
 use Rattle.std.proofs.Common.{ℕ, List, ◌∙◌, subst}
-use Rattle.upstream_answers.specs.Answer.{IsAnswer}
+use Rattle.spec_service.specs.UpstreamAnswer.{IsAnswer}
 use Rattle.upstream_schemas.proofs.hearing.answer_for.Goals as goal
 
 pub returns-in-Ok-parse_answer-clause-answer : goal.returns-in-Ok-parse_answer-clause-answer

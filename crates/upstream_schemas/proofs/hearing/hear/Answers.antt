@@ -1,7 +1,7 @@
 -- The text that the upstream answered.
 use Rattle.std.proofs.Common.{◌≡◌, ℕ, List, Ok, subst, string_bytes}
-use Rattle.upstream_answers.specs.Content.{schema_text}
-use Rattle.upstream_schemas.specs.Naming.{WasAnswered, answered}
+use Rattle.spec_service.specs.UpstreamContent.{schema_text}
+use Rattle.spec_service.specs.UpstreamNaming.{WasAnswered, answered}
 use Rattle.upstream_schemas.proofs.hearing.hear.Goals as goal
 
 pub returns-in-Ok-clause-text : goal.returns-in-Ok-clause-text

@@ -1,6 +1,6 @@
 -- What the text of an id declares.
 use Rattle.std.proofs.Common.{◌≡◌, ℕ, List, Err, subst, string_bytes, rules}
-use Rattle.schema_registry.specs.Accepting.{declaration_of}
+use Rattle.spec_registry.specs.Accepting.{declaration_of}
 use Rattle.upstream_schemas.proofs.schemas.schema_for.Goals as goal
 
 pub returns-in-Err : goal.returns-in-Err

@@ -3,7 +3,7 @@ use Rattle.std.proofs.lemmas.Result.{err_from_is_err_and}
 use Rattle.serde_json.specs.Read.{read}
 use Rattle.serde_json.specs.View.{view}
 use Rattle.spec_avro.specs.declared.limits.TheConstants.{MOST_TEXT}
-use Rattle.avro_schema.specs.Schema.{nodes_in_read}
+use Rattle.spec_schema.specs.Schema.{nodes_in_read}
 use Rattle.avro_schema.proofs.Declared.{too-large, small, no-json, some-json, a-float, walked}
 use Rattle.avro_schema.proofs.DeclaredSizes.{declared-within}
 use Rattle.avro_schema.proofs.ReadSizes.{read-within}

@@ -1,7 +1,7 @@
 use Rattle.std.proofs.Common.{◌≡◌, length, rules, sym, ap, ◌∙◌}
 use Rattle.avro_types.specs.Laws.Placed.{place-some}
 use Rattle.avro_schema_names.specs.Draft.{draft_of}
-use Rattle.avro_schema_names.specs.Head.{heads_of}
+use Rattle.spec_schema.specs.Head.{heads_of}
 use Rattle.avro_schema_names.specs.Index.{namespaces_of}
 use Rattle.avro_schema_names.proofs.Index.{heads-behind}
 use Rattle.avro_schema_names.proofs.NewIndex.{first-number}

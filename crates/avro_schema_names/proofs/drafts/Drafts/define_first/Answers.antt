@@ -6,7 +6,7 @@ use Rattle.std.specs.String.{string_cmp}
 use Rattle.spec_avro.specs.FullNames.{namespace_of, unqualified}
 use Rattle.avro_types.specs.Laws.NameParts.{name-undotted, parts-ruled}
 use Rattle.avro_schema_names.specs.Draft.{draft_of, drafts_of}
-use Rattle.avro_schema_names.specs.Head.{Named, heads_of}
+use Rattle.spec_schema.specs.Head.{Named, heads_of}
 use Rattle.avro_schema_names.proofs.DraftLists.{drafts_of-append, length-drafts_of}
 use Rattle.avro_schema_names.proofs.NewIndex.{index-first, fresh-first}
 use Rattle.avro_schema_names.proofs.drafts.Drafts.define_first.Goals as goal

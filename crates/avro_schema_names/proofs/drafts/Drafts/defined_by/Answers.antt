@@ -5,7 +5,7 @@ use Rattle.avro_types.specs.Laws.Dots.{namespace-inside}
 use Rattle.avro_types.specs.Laws.Placed.{none-used, place-some}
 use Rattle.spec_avro.specs.Symbols.{is_used}
 use Rattle.avro_schema_names.specs.Draft.{drafts_of}
-use Rattle.avro_schema_names.specs.Head.{heads_of}
+use Rattle.spec_schema.specs.Head.{heads_of}
 use Rattle.avro_schema_names.specs.Index.{namespaces_of}
 use Rattle.avro_schema_names.proofs.Index.{found-under, number-below}
 use Rattle.avro_schema_names.proofs.Namespaces.{spaceless}

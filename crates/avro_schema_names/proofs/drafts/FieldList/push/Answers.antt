@@ -1,6 +1,6 @@
 use Rattle.std.proofs.Common.{ap, map, string_bytes, ◌∙◌}
 use Rattle.avro_schema_names.specs.Draft.{draft_field_of}
-use Rattle.avro_schema_names.proofs.DraftLists.{map-push}
+use Rattle.avro_schema_names.specs.Laws.Plain.{map-push}
 use Rattle.avro_schema_names.proofs.Index.{names-behind}
 use Rattle.avro_schema_names.proofs.drafts.FieldList.push.Goals as goal
 

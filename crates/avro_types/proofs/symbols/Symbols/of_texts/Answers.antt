@@ -3,7 +3,8 @@ use Rattle.std.specs.BTreeMap.{UpdatesBy}
 use Rattle.std.specs.Ordering.{nat_cmp}
 use Rattle.std.specs.Cmp.Lexicographic.{slice_cmp}
 use Rattle.std.specs.String.{string_cmp}
-use Rattle.avro_types.proofs.SymbolPositions.{all-taken, comes-once, comes-twice, positions-on, names}
+use Rattle.avro_types.proofs.SymbolPositions.{all-taken, comes-once, comes-twice, positions-on}
+use Rattle.avro_types.specs.Laws.Plain.{names}
 use Rattle.avro_types.proofs.symbols.Symbols.of_texts.Goals as goal
 use Rattle.spec_avro.specs.Symbols.{place_of}
 

@@ -2,7 +2,7 @@ use Rattle.std.proofs.Common.{◌≡◌, ◌+◌, ◌∷◌, ◌++◌, [], ℕ, 
 use Rattle.std.proofs.lemmas.List.{take_more_set}
 use Rattle.std.proofs.Math.Seq.{map-set_same}
 use Rattle.embedding.specs.Batch.{IsBatch, IsItem, output_length, range_of}
-use Rattle.embedding.specs.Pair.{Pair}
+use Rattle.spec_library.specs.Pair.{Pair}
 use Rattle.embedding.proofs.Batches.{AreAlike, end_of, end_of-append, one_more}
 use Rattle.embedding.proofs.owning.OwningTranscoder.report_batch.Goals as goal
 

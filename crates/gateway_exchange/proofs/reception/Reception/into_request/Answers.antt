@@ -1,11 +1,11 @@
 -- What is asked by the head and the body that have come.
 use Rattle.std.proofs.Common.{◌≡◌, ◌∙◌, Err, ap, subst, sym}
 use Rattle.httparse.specs.Spans.{span_bytes}
-use Rattle.gateway_requests.specs.Asking.{asked_for}
-use Rattle.gateway_requests.specs.Path.{path_of}
+use Rattle.spec_service.specs.Asking.{asked_for}
+use Rattle.spec_service.specs.Path.{path_of}
 use Rattle.gateway_requests.specs.Request.{request_of}
 use Rattle.gateway_requests.specs.Steps.{Tells}
-use Rattle.gateway_requests.specs.declared.action.Action.{Action}
+use Rattle.spec_service.specs.declared.action.Action.{Action}
 use Rattle.gateway_exchange.specs.Stages.{IsHead, IsMessageHead, follows, is_whole}
 use Rattle.gateway_exchange.proofs.Receiving.{begun_tells, body_ended, body_whole, each_tells, message_small, refused_tells}
 use Rattle.gateway_exchange.proofs.reception.Reception.into_request.Goals as goal

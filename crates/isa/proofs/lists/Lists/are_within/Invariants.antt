@@ -1,5 +1,5 @@
 use Rattle.std.proofs.Common.{◌≡◌, drop}
-use Rattle.isa.specs.Judging.{are_within}
+use Rattle.spec_machine.specs.Judging.{are_within}
 use Rattle.isa.proofs.lists.Lists.are_within.Given as goal
 
 abbrev pub invariant-loop-number : goal.invariant-loop-number

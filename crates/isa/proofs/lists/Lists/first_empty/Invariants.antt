@@ -1,5 +1,5 @@
 use Rattle.std.proofs.Common.{◌≡◌, drop}
-use Rattle.isa.specs.Judging.{first_empty, first_empty_from}
+use Rattle.spec_machine.specs.Judging.{first_empty, first_empty_from}
 use Rattle.isa.proofs.lists.Lists.first_empty.Given as goal
 
 abbrev pub invariant-loop-number : goal.invariant-loop-number

@@ -1,5 +1,5 @@
 use Rattle.std.proofs.Common.{◌∙◌, ap, sym}
-use Rattle.isa.specs.Judging.{first_out, first_out_in}
+use Rattle.spec_machine.specs.Judging.{first_out, first_out_in}
 use Rattle.isa.proofs.Unshared.{none_in_lists}
 use Rattle.isa.proofs.lists.Lists.items.Goals as goal
 

@@ -1,5 +1,5 @@
 use Rattle.std.proofs.Common.{◌≡◌, ◌+◌, drop}
-use Rattle.isa.specs.Lists.{total_length}
+use Rattle.spec_machine.specs.Lengths.{total_length}
 use Rattle.isa.proofs.lists.Lists.total_is_within.Given as goal
 
 abbrev pub invariant-loop-number : goal.invariant-loop-number

@@ -1,5 +1,5 @@
 use Rattle.std.proofs.Common.{◌≡◌, ◌∙◌, ◌∷◌, ap, arith, reverse, sym}
-use Rattle.isa.specs.State.{add, is_done, total}
+use Rattle.spec_machine.specs.State.{add, is_done, total}
 use Rattle.machine_store.specs.Buffers.{Laid, with_added}
 use Rattle.machine_store.specs.Store.{Held, IsKept, out_of, texts_of}
 use Rattle.machine_store.proofs.Framing.{add-done}

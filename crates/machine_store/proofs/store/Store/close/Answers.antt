@@ -1,5 +1,5 @@
 use Rattle.std.proofs.Common.{◌≡◌, ◌∙◌, List, Some, ap, arith, reverse, subst, sym}
-use Rattle.isa.specs.State.{Store, is_done, total}
+use Rattle.spec_machine.specs.State.{Store, is_done, total}
 use Rattle.machine_store.specs.declared.store.Frame.{Frame}
 use Rattle.machine_store.specs.Buffers.{with_closed}
 use Rattle.machine_store.specs.Frames.{newest_place}

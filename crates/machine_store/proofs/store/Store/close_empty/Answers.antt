@@ -1,7 +1,7 @@
 use Rattle.std.proofs.Common.{rules, ◌≡◌, ◌≢◌, ◌∙◌, ◌∷◌, [], ◌+◌, ◌-◌, List, ℕ, Some, ap, arith, length, reverse, subst, sym}
 use Rattle.std.specs.Prelude.{vec_len}
 use Rattle.spec_avro.specs.declared.limits.TheConstants.{MOST_OUTPUT}
-use Rattle.isa.specs.State.{Store, add, is_done, total}
+use Rattle.spec_machine.specs.State.{Store, add, is_done, total}
 use Rattle.machine_store.specs.declared.buffers.TargetBuffer.TheVariants.{Slot}
 use Rattle.machine_store.specs.declared.store.Frame.{Frame}
 use Rattle.machine_store.specs.Buffers.{with_added, with_fewer}

@@ -1,5 +1,5 @@
 use Rattle.std.proofs.Common.{◌≡◌, ◌∙◌, List, ap, reverse, subst, sym}
-use Rattle.isa.specs.State.{is_done}
+use Rattle.spec_machine.specs.State.{is_done}
 use Rattle.machine_store.specs.declared.store.Frame.{Frame}
 use Rattle.machine_store.specs.Buffers.{with_fewer}
 use Rattle.machine_store.specs.Store.{Held, IsKept, leave, out_of, texts_of, with_frames}

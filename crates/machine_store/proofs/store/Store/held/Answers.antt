@@ -1,5 +1,5 @@
 use Rattle.std.proofs.Common.{◌∷◌, List, ℕ, ap, arith, length, reverse}
-use Rattle.isa.specs.State.{total}
+use Rattle.spec_machine.specs.State.{total}
 use Rattle.machine_store.specs.Store.{Held}
 use Rattle.machine_store.proofs.Keeping.{total-is}
 use Rattle.machine_store.proofs.store.Store.held.Goals as goal

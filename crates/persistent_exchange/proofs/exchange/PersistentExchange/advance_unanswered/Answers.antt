@@ -1,6 +1,6 @@
 -- No call was made.
 use Rattle.std.proofs.Common.{◌≡◌, ℕ, List, drop, ap, subst, sym, ◌∙◌}
-use Rattle.persistent_exchange.specs.Persistent.{Persistent}
+use Rattle.spec_service.specs.Persistent.{Persistent}
 use Rattle.persistent_exchange.specs.Standing.{Holds}
 use Rattle.persistent_exchange.proofs.Keeping.{holds_alike}
 use Rattle.persistent_exchange.proofs.Writing.{never_called}

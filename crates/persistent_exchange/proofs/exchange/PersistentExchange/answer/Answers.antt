@@ -1,7 +1,7 @@
 -- The answer is given to one call at most, and that is for the request that was asked next.
 use Rattle.std.proofs.Common.{ℕ, List, drop, ap, subst, sym, ◌∙◌}
-use Rattle.persistent_exchange.specs.Answering.{AnswersNext, CallsFor}
-use Rattle.persistent_exchange.specs.Persistent.{Persistent}
+use Rattle.spec_service.specs.StreamAnswering.{AnswersNext, CallsFor}
+use Rattle.spec_service.specs.Persistent.{Persistent}
 use Rattle.persistent_exchange.specs.Standing.{Holds}
 use Rattle.persistent_exchange.proofs.Answering.{answers_once, calls_for_next}
 use Rattle.persistent_exchange.proofs.Keeping.{holds_given}

@@ -1,7 +1,7 @@
 -- Nothing has come.
 use Rattle.std.proofs.Common.{ℕ, arith, ap, sym, ◌∙◌, refl}
 use Rattle.http_server.specs.declared.state.Config.{Config}
-use Rattle.persistent_exchange.specs.Stream.{new_scouted}
+use Rattle.spec_service.specs.Stream.{new_scouted}
 use Rattle.persistent_exchange.proofs.Keeping.{saw_nothing}
 use Rattle.persistent_exchange.proofs.exchange.PersistentExchange.new.Goals as goal
 

@@ -1,8 +1,8 @@
 use Rattle.std.proofs.Common.{◌≡◌, refl, sym, ap, ◌∙◌, subst}
 use Rattle.std.proofs.lemmas.Result.{err_from_is_err_and}
 use Rattle.http1.specs.declared.conn.Event.TheVariants as events
-use Rattle.persistent_exchange.specs.Scouting.{adds, begins, ends, waits}
-use Rattle.persistent_exchange.specs.declared.scout.Sighting.TheVariants as sightings
+use Rattle.spec_service.specs.Scouting.{adds, begins, ends, waits}
+use Rattle.spec_service.specs.declared.sighting.Sighting.TheVariants as sightings
 use Rattle.persistent_exchange.proofs.Looking.{found, found_over, refused_head, refused_piece}
 use Rattle.persistent_exchange.proofs.scout.Scout.look.Goals as goal
 

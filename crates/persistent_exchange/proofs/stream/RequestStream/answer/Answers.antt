@@ -1,9 +1,10 @@
 -- The request that was asked next is still the next one, once its bytes were handed on.
 use Rattle.std.proofs.Common.{List, [], ◌∷◌, ◌++◌, ap, subst, subst₂, sym, ◌∙◌}
 use Rattle.http_server.specs.Exchange.{Call}
-use Rattle.persistent_exchange.specs.Answering.{AnswersNext, IsNext}
-use Rattle.persistent_exchange.specs.Persistent.{Persistent}
-use Rattle.persistent_exchange.specs.Preparing.{Answer, AnswerOnce}
+use Rattle.spec_service.specs.StreamAnswering.{AnswersNext, IsNext}
+use Rattle.spec_service.specs.Persistent.{Persistent}
+use Rattle.spec_service.specs.Preparing.{Answer}
+use Rattle.persistent_exchange.specs.Preparing.{AnswerOnce}
 use Rattle.persistent_exchange.proofs.Keeping.{next_handed}
 use Rattle.persistent_exchange.proofs.stream.RequestStream.answer.Goals as goal
 

@@ -2,7 +2,7 @@
 use Rattle.std.proofs.Common.{◌≡◌, ◌∙◌, ◌∷◌, ◌++◌, [], ap, rules, map}
 use Rattle.std.proofs.lemmas.Option.{get_or_from_slice_get, slice_get_within}
 use Rattle.std.proofs.lemmas.Result.{on_ok_weaker}
-use Rattle.program_definition.specs.Numbering.{entry_of}
+use Rattle.spec_machine.specs.Numbering.{entry_of}
 use Rattle.program_ir.specs.Statements.{targets_of}
 use Rattle.program_compiler.proofs.Sharing.{shared_again, shared_on}
 use Rattle.program_compiler.proofs.maps.MapRow.push_enums.Goals as goal

@@ -3,7 +3,7 @@ use Rattle.std.proofs.Common.{rules, [], ap, sym, ◌∙◌, refl, append-nil, �
 use Rattle.std.specs.Prelude.{Some}
 use Rattle.std.proofs.lemmas.Result.{on_ok_weaker}
 use Rattle.avro_types.specs.Node.{node_of}
-use Rattle.program_definition.specs.Statements.{branched}
+use Rattle.spec_machine.specs.Statements.{branched}
 use Rattle.program_ir.specs.Statements.{statements_in}
 use Rattle.program_compiler.proofs.Steps.{body_is, key_then, looped_after, skip_more, skip_none}
 use Rattle.program_compiler.proofs.schema_pair.SchemaPair.+skip.Goals as goal

@@ -3,8 +3,8 @@ use Rattle.std.proofs.Common.{◌-◌, ◌++◌, [], ◌∷◌, ap, ◌∙◌, r
 use Rattle.std.specs.Prelude.{slice_get, Some}
 use Rattle.std.proofs.lemmas.Result.{on_ok_weaker}
 use Rattle.avro_types.specs.Node.{node_of}
-use Rattle.program_definition.specs.Statements.{Enum, Miss, branched}
-use Rattle.program_definition.specs.Writing.{target, write_within}
+use Rattle.spec_machine.specs.Statements.{Enum, Miss, branched}
+use Rattle.spec_machine.specs.Writing.{target, write_within}
 use Rattle.program_ir.specs.Statements.{statements_in, symbols_of}
 use Rattle.program_compiler.proofs.Steps.{body_is, key_then, looped_after, write_more, write_none}
 use Rattle.program_ir.proofs.Appended.{two}

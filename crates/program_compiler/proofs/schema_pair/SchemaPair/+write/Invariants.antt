@@ -1,7 +1,7 @@
 -- Each level takes one of the levels that are left. The members so far, before those that are left, are all of them.
 use Rattle.std.proofs.Common.{◌≡◌, ◌<◌, length, ◌+◌, ◌*◌, ◌++◌, drop, map}
 use Rattle.std.specs.List.{AllByRecursion}
-use Rattle.program_definition.specs.Writing.{write_within}
+use Rattle.spec_machine.specs.Writing.{write_within}
 use Rattle.program_ir.specs.Statements.{parts_in}
 use Rattle.program_compiler.specs.Known.{AreKnown}
 use Rattle.program_compiler.proofs.schema_pair.SchemaPair.+write.Given as goal

@@ -1,7 +1,7 @@
 -- A round for each section, and none left.
 use Rattle.std.proofs.Common.{◌≡◌, ◌++◌, ◌∙◌, ap, arith, length, rules}
 use Rattle.std.specs.Vec.{vec_len}
-use Rattle.program_definition.specs.Numbering.{adding, calls_of, named_in, same_section}
+use Rattle.spec_machine.specs.Numbering.{adding, calls_of, named_in, same_section}
 use Rattle.program_ir.specs.Statements.{statements_in, section_of}
 use Rattle.program_compiler.proofs.Walked.{all_walked, fewer_left, too_many, walked_init, walked_on}
 use Rattle.program_compiler.proofs.schema_pair.SchemaPair.add_sections.Goals as goal

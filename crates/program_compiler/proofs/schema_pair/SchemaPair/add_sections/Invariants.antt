@@ -1,6 +1,6 @@
 -- The sections done, where each begins, and their statements.
 use Rattle.std.proofs.Common.{◌-◌, length}
-use Rattle.isa.specs.declared.limits.TheConstants.{MOST_INSTRS}
+use Rattle.spec_machine.specs.declared.limits.TheConstants.{MOST_INSTRS}
 use Rattle.program_compiler.specs.Known.{AreKnown}
 use Rattle.program_ir.specs.Statements.{statements_in}
 use Rattle.program_compiler.proofs.Walked.{Walked}

@@ -3,8 +3,8 @@ use Rattle.std.proofs.Common.{◌≡◌, ◌++◌, [], ◌∷◌, ap, ◌∙◌,
 use Rattle.std.specs.Prelude.{slice_get}
 use Rattle.std.proofs.lemmas.Result.{on_ok_weaker}
 use Rattle.avro_types.specs.Node.{node_of}
-use Rattle.program_definition.specs.Statements.{BytesText}
-use Rattle.program_definition.specs.Writing.{is_text}
+use Rattle.spec_machine.specs.Statements.{BytesText}
+use Rattle.spec_machine.specs.Writing.{is_text}
 use Rattle.program_ir.specs.Statements.{statements_in}
 use Rattle.program_compiler.proofs.schema_pair.SchemaPair.put_bytes.Goals as goal
 

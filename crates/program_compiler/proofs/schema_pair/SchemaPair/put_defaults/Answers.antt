@@ -5,7 +5,7 @@ use Rattle.std.proofs.lemmas.Grind.{common_steps}
 use Rattle.std.proofs.Math.ListN.{drop_of_length-le}
 use Rattle.avro_types.specs.Node.{fields_of}
 use Rattle.spec_avro.specs.Partners.{has_partner}
-use Rattle.program_definition.specs.Writing.{defaults_code}
+use Rattle.spec_machine.specs.Writing.{defaults_code}
 use Rattle.program_ir.specs.Statements.{statements_in}
 use Rattle.program_compiler.proofs.RoutineSteps.{default_on, field_at}
 use Rattle.program_compiler.proofs.schema_pair.SchemaPair.put_defaults.Goals as goal

@@ -2,7 +2,7 @@
 use Rattle.std.proofs.Common.{◌≡◌, ◌++◌, List, drop}
 use Rattle.spec_avro.specs.Node.{Node}
 use Rattle.avro_types.specs.Node.{fields_of}
-use Rattle.program_definition.specs.Writing.{defaults_code}
+use Rattle.spec_machine.specs.Writing.{defaults_code}
 use Rattle.program_ir.specs.Statements.{statements_in}
 use Rattle.program_compiler.proofs.schema_pair.SchemaPair.put_defaults.Given as goal
 

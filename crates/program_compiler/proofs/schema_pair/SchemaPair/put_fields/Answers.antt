@@ -2,7 +2,7 @@
 use Rattle.std.proofs.Common.{◌++◌, append-nil, length, None, sym, ap, ◌∙◌}
 use Rattle.std.proofs.Math.ListN.{drop_of_length-le}
 use Rattle.spec_avro.specs.declared.place.Route.{Route}
-use Rattle.program_definition.specs.Writing.{fields_code}
+use Rattle.spec_machine.specs.Writing.{fields_code}
 use Rattle.program_ir.specs.Statements.{statements_in}
 use Rattle.program_compiler.proofs.RoutineSteps.{field_on, has_slot, route_here}
 use Rattle.program_compiler.proofs.schema_pair.SchemaPair.put_fields.Goals as goal

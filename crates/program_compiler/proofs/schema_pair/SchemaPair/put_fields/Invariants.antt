@@ -2,7 +2,7 @@
 use Rattle.std.proofs.Common.{◌≡◌, ◌++◌, drop, length}
 use Rattle.resolver.specs.Partners.{AreRoutes}
 use Rattle.spec_avro.specs.declared.limits.TheConstants.{MOST_FIELDS}
-use Rattle.program_definition.specs.Writing.{fields_code}
+use Rattle.spec_machine.specs.Writing.{fields_code}
 use Rattle.program_compiler.specs.Known.{AreKnown}
 use Rattle.program_ir.specs.Statements.{statements_in}
 use Rattle.program_compiler.proofs.schema_pair.SchemaPair.put_fields.Given as goal

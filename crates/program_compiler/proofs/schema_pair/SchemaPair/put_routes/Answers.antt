@@ -1,7 +1,7 @@
 -- What opens, the fields, the defaults and what closes.
 use Rattle.std.proofs.Common.{◌++◌, length, ap, ◌∙◌}
 use Rattle.std.proofs.lemmas.Result.{on_ok_weaker}
-use Rattle.program_definition.specs.Writing.{fields_code}
+use Rattle.spec_machine.specs.Writing.{fields_code}
 use Rattle.program_ir.specs.Statements.{statements_in, routine_statements}
 use Rattle.program_compiler.proofs.Steps.{body_is}
 use Rattle.program_compiler.proofs.schema_pair.SchemaPair.put_routes.Goals as goal

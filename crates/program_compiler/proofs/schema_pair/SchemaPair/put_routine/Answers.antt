@@ -8,7 +8,7 @@ use Rattle.avro_types.specs.Node.{field_of, fields_of}
 use Rattle.spec_avro.specs.declared.place.Route.{Route}
 use Rattle.resolver.specs.Partners.{AreRoutes}
 use Rattle.spec_avro.specs.Partners.{routes}
-use Rattle.program_definition.specs.Writing.{defaults_code, fields_code, write_routine}
+use Rattle.spec_machine.specs.Writing.{defaults_code, fields_code, write_routine}
 use Rattle.spec_avro.specs.Resolution.{field_lists}
 use Rattle.resolver.specs.Steps.{both_lists}
 use Rattle.program_ir.specs.Statements.{statements_in, routine_statements}

@@ -1,7 +1,7 @@
 -- Each section, of nodes that there are or not.
 use Rattle.std.proofs.Common.{◌≤◌, ◌++◌, ap, sym, ◌∙◌, length, arith}
 use Rattle.std.proofs.lemmas.Result.{on_ok_weaker}
-use Rattle.program_definition.specs.Writing.{section}
+use Rattle.spec_machine.specs.Writing.{section}
 use Rattle.program_ir.specs.Statements.{statements_in, section_of}
 use Rattle.program_ir.proofs.Appended.{two}
 use Rattle.program_compiler.proofs.SectionSteps.{main_more, no_node, no_reader_node, no_writer_node, skip_section, write_section}

@@ -2,7 +2,7 @@
 use Rattle.std.proofs.Common.{◌++◌, ap, sym, ◌∙◌, Some}
 use Rattle.std.proofs.lemmas.Result.{on_ok_weaker}
 use Rattle.avro_types.specs.Node.{fields_of, node_of}
-use Rattle.program_definition.specs.Skipping.{skip_fields, skip_routine}
+use Rattle.spec_machine.specs.Skipping.{skip_fields, skip_routine}
 use Rattle.program_ir.specs.Statements.{statements_in}
 use Rattle.program_ir.proofs.Appended.{two}
 use Rattle.program_compiler.proofs.RoutineSteps.{no_record}

@@ -2,7 +2,7 @@
 use Rattle.std.proofs.Common.{◌≡◌, ◌++◌, drop, length}
 use Rattle.avro_types.specs.Node.{fields_of}
 use Rattle.spec_avro.specs.WellFormed.{FieldsBelow}
-use Rattle.program_definition.specs.Skipping.{skip_fields}
+use Rattle.spec_machine.specs.Skipping.{skip_fields}
 use Rattle.program_ir.specs.Statements.{statements_in}
 use Rattle.program_compiler.proofs.schema_pair.SchemaPair.skip_fields.Given as goal
 

@@ -2,7 +2,7 @@
 use Rattle.std.proofs.Common.{◌≡◌, ◌∙◌, ap, sym, is_some, false}
 use Rattle.std.specs.Str.{bytes_eq}
 use Rattle.std.proofs.lemmas.Result.{IfOk-weaker}
-use Rattle.program_definition.specs.Numbering.{has}
+use Rattle.spec_machine.specs.Numbering.{has}
 use Rattle.program_ir.proofs.Tables.{adding_new, adding_there, is_found}
 use Rattle.program_ir.proofs.constants.Constants.with.Goals as goal
 

@@ -1,7 +1,7 @@
 -- What is there stays where it is, and another comes last.
 use Rattle.std.proofs.Common.{◌≡◌, ◌∙◌, ap, sym, is_some, false}
 use Rattle.std.proofs.lemmas.Result.{on_ok_weaker}
-use Rattle.program_definition.specs.Numbering.{has, same_miss}
+use Rattle.spec_machine.specs.Numbering.{has, same_miss}
 use Rattle.program_ir.proofs.Tables.{adding_new, adding_there, is_found}
 use Rattle.program_ir.proofs.misses.Misses.add.Goals as goal
 

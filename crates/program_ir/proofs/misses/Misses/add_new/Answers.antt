@@ -1,6 +1,6 @@
 -- One more is the last, and the others keep their numbers.
 use Rattle.std.proofs.Common.{◌≡◌, ◌++◌, ◌∷◌, [], ◌∙◌, ap, sym, rules, length}
-use Rattle.program_definition.specs.Numbering.{same_miss}
+use Rattle.spec_machine.specs.Numbering.{same_miss}
 use Rattle.std.specs.Ordering.{is_eq}
 use Rattle.program_ir.specs.Tables.{found, key_cmp, key_of as key_of_miss}
 use Rattle.program_ir.proofs.Tables.{miss_at, miss_fresh, table_on}

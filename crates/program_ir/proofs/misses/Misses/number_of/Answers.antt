@@ -1,5 +1,5 @@
 -- The number of what is there, and of what is not how many there are.
-use Rattle.program_definition.specs.Numbering.{same_miss}
+use Rattle.spec_machine.specs.Numbering.{same_miss}
 use Rattle.program_ir.proofs.Tables.{number_or}
 use Rattle.program_ir.proofs.misses.Misses.number_of.Goals as goal
 

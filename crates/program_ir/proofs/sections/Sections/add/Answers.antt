@@ -1,7 +1,7 @@
 -- A section that is there stays where it is, and another comes last.
 use Rattle.std.proofs.Common.{◌≡◌, ◌++◌, ◌∷◌, [], ◌∙◌, ap, sym, true, false, is_some, refl}
 use Rattle.std.proofs.lemmas.Result.{on_ok_weaker}
-use Rattle.program_definition.specs.Numbering.{has, same_section}
+use Rattle.spec_machine.specs.Numbering.{has, same_section}
 use Rattle.program_ir.specs.Statements.{section_of}
 use Rattle.program_ir.specs.Sections.{place}
 use Rattle.program_ir.proofs.Numbered.{has_place}

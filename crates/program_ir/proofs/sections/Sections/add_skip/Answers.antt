@@ -1,6 +1,6 @@
 -- One more is the last, and the others keep their numbers.
 use Rattle.std.proofs.Common.{◌≡◌, ◌++◌, ◌∷◌, [], ◌∙◌, ap, sym, refl, rules, length}
-use Rattle.program_definition.specs.Statements.{Main, Write, Skip}
+use Rattle.spec_machine.specs.Statements.{Main, Write, Skip}
 use Rattle.program_ir.specs.declared.statements.Section.TheVariants as parts
 use Rattle.program_ir.specs.Sections.{place, sections_in}
 use Rattle.program_ir.proofs.Numbered.{place_other, sections_length, sections_on, skip_at, skip_fresh, table_on}

@@ -1,6 +1,6 @@
 -- Under the nodes is the index of the routine's section.
 use Rattle.std.proofs.Common.{◌∙◌, ap, sym}
-use Rattle.program_definition.specs.Statements.{Write}
+use Rattle.spec_machine.specs.Statements.{Write}
 use Rattle.program_ir.specs.Statements.{section_of}
 use Rattle.program_ir.specs.Sections.{place}
 use Rattle.program_ir.proofs.sections.Sections.number_of.Goals as goal

@@ -1,7 +1,8 @@
 -- The start reads what the crash left, which is what the store has.
 use Rattle.std.proofs.Common.{◌++◌, [], ◌∷◌}
 use Rattle.registry_store.specs.Schemas.{registration, registrations}
-use Rattle.registry_store.proofs.Restarts.{found-kept, found-one, on-ok}
+use Rattle.registry_store.proofs.Restarts.{found-kept, found-one}
+use Rattle.registry_store.specs.Laws.Plain.{on-ok}
 use Rattle.registry_store.proofs.upstream_opening.UpstreamStore.keep_and_crash.Goals as goal
 
 pub returns-clause-kept : goal.returns-clause-kept

@@ -1,8 +1,8 @@
 use Rattle.std.proofs.Common.{inl, refl, option_map, string_bytes}
 use Rattle.std.proofs.lemmas.Result.{err_from_is_err_and}
-use Rattle.schema_registry.specs.Accepting.{id_for, registry_after}
+use Rattle.spec_registry.specs.Accepting.{id_for, registry_after}
 use Rattle.schema_registry.specs.Keeping.{KeptRegistration}
-use Rattle.schema_registry.specs.Reply.{IdReply}
+use Rattle.spec_registry.specs.Reply.{IdReply}
 use Rattle.schema_registry.proofs.Restarts.{may-fail-level, may_register, new_kept}
 use Rattle.schema_registry.proofs.Told.{registered-refusal}
 use Rattle.schema_registry.proofs.kept_registry.KeptRegistry.apply.Goals as goal

@@ -1,5 +1,5 @@
 use Rattle.std.proofs.Common.{◌≡◌, ◌∙◌, ◌++◌, [], ◌∷◌, Ok, ap, string_bytes}
-use Rattle.schema_registry.specs.Accepting.{declaration_of}
+use Rattle.spec_registry.specs.Accepting.{declaration_of}
 use Rattle.schema_registry.specs.Keeping.{KeptRegistration, kept_in}
 use Rattle.schema_registry.proofs.Restarts.{one_more, one_text, new_after, kept_failed, kept_done, kept_back}
 use Rattle.schema_registry.proofs.kept_registry.KeptRegistry.register_new.Goals as goal

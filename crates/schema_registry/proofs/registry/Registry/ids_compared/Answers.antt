@@ -1,7 +1,7 @@
 use Rattle.std.proofs.Common.{◌∙◌, ap, sym, map}
-use Rattle.schema_registry_maps.specs.Comparing.{compared}
-use Rattle.schema_registry.specs.Level.{is_transitive}
-use Rattle.schema_registry.specs.Lists.{Entry}
+use Rattle.spec_registry.specs.Comparing.{compared}
+use Rattle.spec_registry.specs.Level.{is_transitive}
+use Rattle.spec_registry.specs.Lists.{Entry}
 use Rattle.schema_registry.proofs.Entries.{compared-ids}
 use Rattle.schema_registry.proofs.Kept.{versions-found}
 use Rattle.schema_registry.proofs.registry.Registry.ids_compared.Goals as goal

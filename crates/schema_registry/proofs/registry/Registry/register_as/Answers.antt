@@ -1,6 +1,6 @@
-use Rattle.schema_registry.specs.Accepting.{declaration_of, registry_after}
-use Rattle.schema_registry.specs.Command.{RegisterCommand}
-use Rattle.schema_registry.specs.Reply.{IdReply}
+use Rattle.spec_registry.specs.Accepting.{declaration_of, registry_after}
+use Rattle.spec_registry.specs.Command.{RegisterCommand}
+use Rattle.spec_registry.specs.Reply.{IdReply}
 use Rattle.schema_registry.specs.Tables.{entry_of}
 use Rattle.std.proofs.Common.{string_bytes}
 use Rattle.schema_registry.proofs.Added.{known-answer, known-held}

@@ -1,7 +1,8 @@
 use Rattle.std.proofs.Common.{option_map, string_bytes}
 use Rattle.std.proofs.lemmas.Result.{err_from_is_err_and}
-use Rattle.schema_registry.specs.Accepting.{registry_after}
-use Rattle.schema_registry.proofs.Replays.{if-err, level-read-of, level-stored, level-why, no-level, on-ok}
+use Rattle.spec_registry.specs.Accepting.{registry_after}
+use Rattle.schema_registry.proofs.Replays.{if-err, level-read-of, level-stored, level-why, no-level}
+use Rattle.registry_store.specs.Laws.Plain.{on-ok}
 use Rattle.schema_registry.proofs.registry.Registry.replay.Goals as goal
 
 pub returns-in_err-level-in-Level-clause-why : goal.returns-in_err-level-in-Level-clause-why

@@ -1,6 +1,6 @@
 use Rattle.std.proofs.Common.{◌≡◌, ◌∙◌, ap, string_bytes}
 use Rattle.std.proofs.lemmas.Result.{err_from_is_err_and}
-use Rattle.schema_registry.specs.Accepting.{registry_after}
+use Rattle.spec_registry.specs.Accepting.{registry_after}
 use Rattle.schema_registry.specs.Keeping.{kept_in}
 use Rattle.schema_registry.proofs.Restarts.{decided_kept, new_after, new_kept}
 use Rattle.schema_registry.proofs.Told.{registered-refusal}

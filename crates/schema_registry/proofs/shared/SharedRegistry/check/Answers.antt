@@ -1,11 +1,11 @@
 use Rattle.std.proofs.Common.{refl, subst, sym}
 use Rattle.std.proofs.lemmas.Result.{err_from_is_err_and}
-use Rattle.schema_registry.specs.declared.refusal.Refusal.TheVariants.{NoMemory}
-use Rattle.schema_registry.specs.Accepting.{registry_after}
+use Rattle.spec_registry.specs.declared.refusal.Refusal.TheVariants.{NoMemory}
+use Rattle.spec_registry.specs.Accepting.{registry_after}
 use Rattle.schema_registry.specs.Answer.{Gives}
-use Rattle.schema_registry.specs.Answers.{comparison}
-use Rattle.schema_registry.specs.Command.{CheckCommand}
-use Rattle.schema_registry.specs.Lists.{no_lists}
+use Rattle.spec_registry.specs.Answers.{comparison}
+use Rattle.spec_registry.specs.Command.{CheckCommand}
+use Rattle.spec_registry.specs.Lists.{no_lists}
 use Rattle.schema_registry.proofs.SomeAnswer.{early-refusal, some-answer}
 use Rattle.schema_registry.proofs.Told.{beside-is, short-text, whatever-refused}
 use Rattle.schema_registry.proofs.shared.SharedRegistry.check.Goals as goal

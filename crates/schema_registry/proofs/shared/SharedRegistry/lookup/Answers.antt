@@ -1,10 +1,10 @@
 use Rattle.std.proofs.Common.{subst, sym, string_bytes}
 use Rattle.std.proofs.lemmas.Result.{err_from_is_err_and}
-use Rattle.schema_registry.specs.Accepting.{registry_after}
+use Rattle.spec_registry.specs.Accepting.{registry_after}
 use Rattle.schema_registry.specs.Answer.{Gives}
-use Rattle.schema_registry.specs.Answers.{version_answer}
-use Rattle.schema_registry.specs.Command.{LookupCommand}
-use Rattle.schema_registry.specs.Lists.{no_lists}
+use Rattle.spec_registry.specs.Answers.{version_answer}
+use Rattle.spec_registry.specs.Command.{LookupCommand}
+use Rattle.spec_registry.specs.Lists.{no_lists}
 use Rattle.schema_registry.proofs.SomeAnswer.{early-refusal, some-answer}
 use Rattle.schema_registry.proofs.Told.{lookup-is, short-text, whatever-refused}
 use Rattle.schema_registry.proofs.shared.SharedRegistry.lookup.Goals as goal

@@ -1,9 +1,9 @@
 use Rattle.std.proofs.Common.{subst, sym, Err, string_bytes}
 use Rattle.std.proofs.lemmas.Result.{err_from_is_err_and}
-use Rattle.schema_registry.specs.Accepting.{registry_after}
-use Rattle.schema_registry.specs.Answer.{IsAnswer}
-use Rattle.schema_registry.specs.Answers.{answer_to}
-use Rattle.schema_registry.specs.Command.{RegisterCommand}
+use Rattle.spec_registry.specs.Accepting.{registry_after}
+use Rattle.spec_registry.specs.Answer.{IsAnswer}
+use Rattle.spec_registry.specs.Answers.{answer_to}
+use Rattle.spec_registry.specs.Command.{RegisterCommand}
 use Rattle.schema_registry.proofs.SomeAnswer.{memory-refused, registration-grows, unstored-registration, why-refused}
 use Rattle.schema_registry.proofs.Told.{asked-grows, registered-refusal}
 use Rattle.schema_registry.proofs.shared.SharedRegistry.register_candidate.Goals as goal

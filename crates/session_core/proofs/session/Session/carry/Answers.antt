@@ -1,7 +1,7 @@
 use Rattle.std.proofs.Common.{◌≡◌, Some, slice_get, subst}
-use Rattle.isa.specs.State.{State}
+use Rattle.spec_machine.specs.State.{State}
 use Rattle.machine.specs.Run.{IsCarry}
-use Rattle.session_core.specs.Session.{Session, state_of}
+use Rattle.spec_sessions.specs.Session.{Session, state_of}
 use Rattle.session_core.proofs.session.Session.carry.Goals as goal
 
 pub returns : goal.returns

@@ -1,7 +1,7 @@
 use Rattle.std.proofs.Common.{◌≤◌, length, subst, sym}
 use Rattle.spec_avro.specs.declared.limits.TheConstants.{MOST_PAYLOAD}
 use Rattle.session_core.specs.SessionEnding.{SessionLeadsToOutcome}
-use Rattle.session_core.specs.Session.{Session}
+use Rattle.spec_sessions.specs.Session.{Session}
 use Rattle.session_core.proofs.Ends.{ends_within}
 use Rattle.session_core.proofs.session.Session.ends_with_the_outcome.Goals as goal
 

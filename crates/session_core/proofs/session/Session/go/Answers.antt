@@ -1,6 +1,6 @@
 use Rattle.std.proofs.Common.{ℕ, ◌≡◌, sym, ap, ◌∙◌, subst, arith}
-use Rattle.session_core.specs.Rows.{TakesRows, walk_rows}
-use Rattle.session_core.specs.Session.{state_of}
+use Rattle.spec_sessions.specs.Rows.{TakesRows, walk_rows}
+use Rattle.spec_sessions.specs.Session.{state_of}
 use Rattle.session_core.proofs.Sessions.{stopped, went}
 use Rattle.session_core.proofs.session.Session.go.Goals as goal
 

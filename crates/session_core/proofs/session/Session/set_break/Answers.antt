@@ -1,7 +1,7 @@
 use Rattle.std.proofs.Common.{◌≡◌, ◌<◌, ◌∙◌, ℕ, List, false, length, sym, ap, subst, arith}
-use Rattle.isa.specs.Program.{Program}
-use Rattle.session_core.specs.declared.limits.TheConstants.{MOST_BREAKS}
-use Rattle.session_core.specs.Session.{has_break}
+use Rattle.spec_machine.specs.Program.{Program}
+use Rattle.spec_sessions.specs.declared.limits.TheConstants.{MOST_BREAKS}
+use Rattle.spec_sessions.specs.Session.{has_break}
 use Rattle.session_core.proofs.Breaks.{set_kept}
 use Rattle.session_core.proofs.session.Session.set_break.Goals as goal
 

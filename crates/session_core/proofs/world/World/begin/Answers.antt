@@ -1,6 +1,7 @@
 use Rattle.std.proofs.Common.{sym, ap, subst, ◌≡◌, Some}
-use Rattle.session_core.specs.Session.{Session}
-use Rattle.session_core.specs.World.{IsCodeOf, World, program_at}
+use Rattle.spec_sessions.specs.Session.{Session}
+use Rattle.session_core.specs.World.{IsCodeOf}
+use Rattle.spec_sessions.specs.World.{World, program_at}
 use Rattle.session_core.proofs.Worlds.{found-here, kept-by-push}
 use Rattle.session_core.proofs.world.World.begin.Goals as goal
 

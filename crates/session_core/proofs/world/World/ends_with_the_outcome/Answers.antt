@@ -2,7 +2,7 @@ use Rattle.std.proofs.Common.{◌≡◌, List, Some, length, refl, sym, subst, �
 use Rattle.std.proofs.lemmas.Option.{slice_get_read}
 use Rattle.std.specs.Prelude.{slice_get}
 use Rattle.session_core.specs.Ending.{SessionEndsWithOutcome}
-use Rattle.session_core.specs.World.{Held, World}
+use Rattle.spec_sessions.specs.World.{Held, World}
 use Rattle.session_core.proofs.ActsKeep.{ends-for, same-held}
 use Rattle.session_core.proofs.world.World.ends_with_the_outcome.Goals as goal
 

@@ -1,8 +1,8 @@
 use Rattle.std.proofs.Common.{◌≡◌, ◌<◌, length, true, refl, rules, string_bytes}
 use Rattle.spec_avro.specs.declared.limits.TheConstants.{MOST_TEXT}
-use Rattle.schema_registry.specs.Accepting.{registry_after}
+use Rattle.spec_registry.specs.Accepting.{registry_after}
 use Rattle.schema_registry.specs.Command.{command_of}
-use Rattle.schema_registry.specs.Subject.{is_subject}
+use Rattle.spec_registry.specs.Subject.{is_subject}
 use Rattle.session_core.proofs.Replies.{long-refused}
 use Rattle.session_core.proofs.Worlds.{kept-by-answer}
 use Rattle.session_core.proofs.world.World.register.Goals as goal

@@ -1,7 +1,8 @@
 use Rattle.std.proofs.Common.{map, subst}
 use Rattle.session_core.specs.Event.{event_of}
-use Rattle.session_core.specs.Happening.{Happened, steps_of}
-use Rattle.session_core.specs.World.{World}
+use Rattle.spec_sessions.specs.Happening.{Happened}
+use Rattle.session_core.specs.Happening.{steps_of}
+use Rattle.spec_sessions.specs.World.{World}
 use Rattle.session_core.proofs.world.World.run_events.Goals as goal
 
 pub returns-clause-own : goal.returns-clause-own

@@ -1,11 +1,11 @@
 use Rattle.std.proofs.Common.{sym, subst, refl}
 use Rattle.std.specs.Prelude.{option_map, string_bytes}
-use Rattle.schema_registry.specs.Accepting.{registry_after}
+use Rattle.spec_registry.specs.Accepting.{registry_after}
 use Rattle.schema_registry.specs.Command.{command_of}
-use Rattle.session_core.specs.declared.reply.EventReply.{EventReply}
-use Rattle.session_core.specs.Event.{SetLevel}
-use Rattle.session_core.specs.Happening.{Happens}
-use Rattle.session_core.specs.World.{World}
+use Rattle.spec_sessions.specs.declared.reply.EventReply.{EventReply}
+use Rattle.spec_sessions.specs.Event.{SetLevel}
+use Rattle.spec_sessions.specs.Happening.{Happens}
+use Rattle.spec_sessions.specs.World.{World}
 use Rattle.session_core.proofs.Replies.{level-grows, level-happens}
 use Rattle.session_core.proofs.Worlds.{kept-by-answer}
 use Rattle.session_core.proofs.world.World.set_level.Goals as goal

@@ -1,5 +1,5 @@
 use Rattle.std.proofs.Common.{ap}
-use Rattle.session_core.specs.Session.{Session}
+use Rattle.spec_sessions.specs.Session.{Session}
 use Rattle.session_pool.proofs.Passes.{still_kept}
 use Rattle.session_pool.proofs.pool.SessionPool.end.Goals as goal
 

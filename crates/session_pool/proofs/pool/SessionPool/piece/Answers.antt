@@ -1,5 +1,5 @@
 use Rattle.std.proofs.Common.{ap, subst}
-use Rattle.session_core.specs.Session.{Session}
+use Rattle.spec_sessions.specs.Session.{Session}
 use Rattle.session_pool_slots.specs.Account.{kept}
 use Rattle.session_pool.specs.Seats.{HandsBack}
 use Rattle.session_pool.proofs.Passes.{hands_back, still_kept}

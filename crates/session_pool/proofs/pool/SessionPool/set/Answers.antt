@@ -1,5 +1,5 @@
 use Rattle.std.proofs.Common.{ap, sym, subst, Err}
-use Rattle.session_core.specs.Session.{Session, with_break}
+use Rattle.spec_sessions.specs.Session.{Session, with_break}
 use Rattle.session_pool_slots.specs.Account.{kept}
 use Rattle.session_pool.specs.declared.debug_error.DebugError.{DebugError}
 use Rattle.session_pool.specs.declared.debugging.DebugCommand.TheVariants as ask

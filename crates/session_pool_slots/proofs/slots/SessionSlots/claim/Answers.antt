@@ -1,5 +1,5 @@
 use Rattle.std.proofs.Common.{rules, ℕ, List, ◌∷◌, ap, ◌∙◌, Option}
-use Rattle.session_core.specs.Session.{Session}
+use Rattle.spec_sessions.specs.Session.{Session}
 use Rattle.session_pool_slots.proofs.Calls.{claimed_found, claimed_now}
 use Rattle.session_pool_slots.proofs.Keeping.{claims_at}
 use Rattle.session_pool_slots.specs.Account.{At, has_ended, opened}

@@ -1,5 +1,5 @@
 use Rattle.std.proofs.Common.{arith, refl, ap, sym, subst, ◌∙◌}
-use Rattle.session_core.specs.Session.{Session, begun}
+use Rattle.spec_sessions.specs.Session.{Session, begun}
 use Rattle.session_pool_slots.specs.Words.{IsWordOf, ready}
 use Rattle.session_pool_slots.specs.Steps.{new_pass}
 use Rattle.session_pool_slots.specs.Account.{has_ended, opened}

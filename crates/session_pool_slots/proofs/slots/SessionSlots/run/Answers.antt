@@ -1,7 +1,7 @@
 use Rattle.std.proofs.Common.{rules, ◌≡◌, ℕ, [], None, subst, sym, ap}
-use Rattle.session_core.specs.Session.{Session}
+use Rattle.spec_sessions.specs.Session.{Session}
 use Rattle.session_core.specs.SessionEnding.{EndsInOneSlice}
-use Rattle.session_core.specs.Rows.{TakesRows, slice_rows}
+use Rattle.spec_sessions.specs.Rows.{TakesRows, slice_rows}
 use Rattle.session_core.specs.Stopping.{IsStopped}
 use Rattle.session_pool_slots.specs.Words.{IsWordOf}
 use Rattle.session_pool_slots.proofs.Calls.{has_first, lifted, put_in, put_twice, returned_now}

@@ -1,6 +1,6 @@
 -- The text is the one that was heard, and it was kept.
 use Rattle.std.proofs.Common.{ℕ, List, string_bytes, subst, sym}
-use Rattle.upstream_schemas.specs.Naming.{IsTextOf}
+use Rattle.spec_service.specs.UpstreamNaming.{IsTextOf}
 use Rattle.upstream_schemas.proofs.schemas.UpstreamSchemas.ask.Goals as goal
 
 pub keep-requires : goal.keep-requires

@@ -1,6 +1,6 @@
 -- The text was kept before.
 use Rattle.std.proofs.Common.{string_bytes}
-use Rattle.upstream_schemas.specs.Naming.{kept_before}
+use Rattle.spec_service.specs.UpstreamNaming.{kept_before}
 use Rattle.upstream_schemas.proofs.schemas.UpstreamSchemas.hold.Goals as goal
 
 pub register-requires : goal.register-requires

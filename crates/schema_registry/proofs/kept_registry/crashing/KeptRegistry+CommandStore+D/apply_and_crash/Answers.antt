@@ -1,8 +1,9 @@
 use Rattle.std.proofs.Common.{List, ap, subst, ◌∙◌, IfOk, IsTrue}
-use Rattle.schema_registry.specs.Command.{Command}
-use Rattle.schema_registry.specs.Storing.{IsFoundAfter}
+use Rattle.spec_registry.specs.Command.{Command}
+use Rattle.spec_registry.specs.Storing.{IsFoundAfter}
 use Rattle.schema_registry.proofs.KeptStores.{after-crash, no-fault-named}
-use Rattle.schema_registry.proofs.Replays.{on-err, on-ok}
+use Rattle.schema_registry.proofs.Replays.{on-err}
+use Rattle.registry_store.specs.Laws.Plain.{on-ok}
 use Rattle.schema_registry.proofs.kept_registry.crashing.KeptRegistry+CommandStore+D.apply_and_crash.Goals as goal
 
 pub returns-clause-answered : goal.returns-clause-answered

@@ -1,0 +1,15 @@
+pub mod Accepting
+pub mod Answer
+pub mod Answers
+pub mod Command
+pub mod Comparing
+pub mod Envelope
+pub mod Level
+pub mod Lists
+pub mod Path
+pub mod Receipt
+pub mod Refusal
+pub mod Reply
+pub mod Shared
+pub mod Storing
+pub mod Subject

@@ -1,0 +1,16 @@
+pub mod Aliases
+pub mod Attributes
+pub mod Declaring
+pub mod DefaultData
+pub mod Defaults
+pub mod Definitions
+pub mod Draft
+pub mod Given
+pub mod Head
+pub mod Names
+pub mod Schema
+pub mod SchemaError
+pub mod SchemaLaw
+pub mod Steps
+pub mod Walk
+pub mod Word

@@ -1,0 +1,15 @@
+pub mod Account
+pub mod Acts
+pub mod Changes
+pub mod Event
+pub mod Finishing
+pub mod Happening
+pub mod Isolation
+pub mod Names
+pub mod Pass
+pub mod ProgramPair
+pub mod Rows
+pub mod Session
+pub mod SessionEnding
+pub mod SessionNames
+pub mod World
