@@ -3,10 +3,10 @@
 ghost use Rattle.std.specs.Prelude.{◌≡◌, ◌++◌, string_bytes, OnOk};
 ghost use Rattle.spec_lines.specs.RunLine.{line_of_run, name_of_trap, text_of_end};
 
-use crate::outcome_line::{push_done, push_outcome};
+use crate::answer::{push_done, push_outcome};
 use avro_bytes::Outcome;
 use isa::Trap;
-use machine_stepper::{EndView, Machine};
+use machine::{EndView, Machine};
 use std::alloc::{AllocError, Global};
 use std::fmt::Write;
 

@@ -9,7 +9,7 @@ ghost use Rattle.spec_lines.specs.ShownWords.{bytes};
 
 use crate::words::{push_buffer, push_number, push_walk};
 use avro_bytes::BlockWalk;
-use machine_stepper::Machine;
+use machine::Machine;
 use machine_store::{BufferAt, FrameView};
 use std::alloc::{AllocError, Global};
 use std::fmt::Write;

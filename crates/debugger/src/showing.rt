@@ -8,7 +8,7 @@ use crate::frames::{push_calls, push_frames};
 use crate::words::{push_buffer, push_mark, push_moving, push_truth};
 use assembler::disassemble;
 use isa::Program;
-use machine_stepper::{EndView, Machine};
+use machine::{EndView, Machine};
 use machine_store::BufferAt;
 use std::alloc::{AllocError, Global};
 use std::fmt::Write;

@@ -2,11 +2,11 @@
 
 ghost use Rattle.std.specs.Prelude.{◌≡◌, ◌++◌, is_some, option_map, string_bytes, true, OnOk, Some};
 ghost use Rattle.machine_store.specs.Viewing.{buffer_of};
-ghost use Rattle.machine_stepper.specs.Running.{content_of};
+ghost use Rattle.machine.specs.Running.{content_of};
 ghost use Rattle.spec_lines.specs.ShownWords.{bytes, moving_content, number, number_or_none, size_or_none, truth, walk};
 
 use avro_bytes::BlockWalk;
-use machine_stepper::{Content, Machine};
+use machine::{Content, Machine};
 use machine_store::BufferAt;
 use std::alloc::{AllocError, Global};
 use std::fmt::Write;

@@ -4,22 +4,15 @@
 #![tactic(auto)]
 
 mod app;
-mod ending;
-mod helping;
 mod pooled;
-mod seats;
-mod sending;
 mod serving;
 mod working;
 
 pub use app::App;
-pub use ending::MOST_ABANDONS;
 pub use gateway_core::{
     AnswerBytes, Evidence, Gate, NamedReply, NamedSchema, Place, Reply, Schemas, ServeError, Sight,
     TellError,
 };
-pub use helping::{Helping, SLICE};
-pub use pooled::Pooled;
-pub use seats::{pop_client, pop_worker};
+pub use pooled::{MOST_ABANDONS, Pooled};
 pub use serving::{reply_named, reply_to, serve_and_tell, serve_one};
-pub use working::work;
+pub use working::{Helping, SLICE, pop_client, pop_worker, work};

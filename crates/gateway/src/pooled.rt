@@ -1,19 +1,17 @@
-//! Transcoding by sessions of a pool.
+//! Transcoding by sessions of a pool: a session is sent a whole payload, and then asked for its outcome, or abandoned.
 
-ghost use Rattle.std.specs.Prelude.{◌≡◌, ◌≤◌, IfErr, IfOk, OnErr, vec_len};
+ghost use Rattle.std.specs.Prelude.{◌≡◌, ◌≤◌, IfErr, IfOk, OnErr, OnOk, vec_len};
 ghost use Rattle.spec_avro.specs.declared.limits.TheConstants.{MOST_PAYLOAD};
-ghost use Rattle.session_pool_slots.specs.Account.{new_account};
-ghost use Rattle.session_pool.specs.Seats.{IsPassOf, Rests, told};
-ghost use Rattle.gateway_core.specs.Gates.{SaidNo};
+ghost use Rattle.session_pool_slots.specs.Account.{new_account, with_close, with_sent};
+ghost use Rattle.session_pool.specs.Seats.{IsPassOf, KeepsOthers, Rests, told};
+ghost use Rattle.gateway_core.specs.Gates.{Asked, SaidNo};
 ghost use Rattle.gateway.specs.Ending.{IsOutcomeOf};
 ghost use Rattle.gateway.specs.Refusing.{Refuses, fault_of};
 ghost use Rattle.gateway.specs.Stopping.{IsGivenUp, IsWhyStopped};
 
-use crate::ending::{abandon, finish};
-use crate::sending::feed;
 use avro_bytes::Outcome;
-use gateway_core::{Gate, ReceiptPair, Transcode, TranscodeFault};
-use session_pool::{ClientSeat, OpenError, Pass, SessionPool};
+use gateway_core::{Gate, Place, ReceiptPair, Transcode, TranscodeFault};
+use session_pool::{ClientSeat, Finished, OpenError, Pass, PieceError, SessionEnd, SessionPool};
 use std::sync::Wait;
 
 /// A transcoder that works by sessions of a pool: one for each payload, which whoever takes it runs.
@@ -83,4 +81,161 @@ impl<'a, 'p> Transcode for Pooled<'a, 'p> {
             Err(error) => Err(fault_of(error)),
         }
     }
+}
+
+/// Sends a session that has just begun a payload as one piece. While a worker has the session it asks the gate and
+/// tries again: `NotFinished` where the gate says no, `NoMemory` where the session found none.
+fn send<'p, R: Wait, G: Gate>(
+    rt: &R,
+    pool: &SessionPool<'p>,
+    seat: &mut ClientSeat<'p>,
+    gate: &mut G,
+    pass: &Pass,
+    payload: Vec<u8>,
+) -> Result<(), TranscodeFault>
+    requires seat { Rests pool.now seat.old }
+    requires pass { IsPassOf seat.old pass.now }
+    requires begun { told seat.old pass.now ≡ new_account pass.now.pair.program }
+    requires size { vec_len payload ≤ MOST_PAYLOAD }
+    ensures seat { Rests pool.now seat.new }
+    ensures pass { IsPassOf seat.new pass.now }
+    ensures told { OnOk result (told seat.new pass.now ≡ with_sent payload.items (told seat.old pass.now)) }
+    ensures others { KeepsOthers seat.old pass.now seat.new }
+    ensures asked { Asked G.says gate.old gate.new }
+    ensures why { IfErr result (IsWhyStopped (SaidNo G.says gate.old gate.new)) }
+{
+    let mut held = payload;
+    for _ in rt.forever() {
+        match pool.piece(seat, pass, held) {
+            Ok(()) => return Ok(()),
+            Err(back) => match back.why {
+                PieceError::Busy => held = back.piece,
+                PieceError::NoMemory => return Err(TranscodeFault::NoMemory),
+                PieceError::TooLarge | PieceError::Ended => unreachable!(),
+            },
+        }
+        if !gate.at(Place::Waiting) {
+            return Err(TranscodeFault::NotFinished);
+        }
+    }
+    unreachable!()
+}
+
+/// Ends a session's payload, of which it has all bytes. While a worker has the session it asks the gate and tries
+/// again: `NotFinished` where the gate says no.
+fn close<'p, R: Wait, G: Gate>(
+    rt: &R,
+    pool: &SessionPool<'p>,
+    seat: &mut ClientSeat<'p>,
+    gate: &mut G,
+    pass: &Pass,
+) -> Result<(), TranscodeFault>
+    requires seat { Rests pool.now seat.old }
+    requires pass { IsPassOf seat.old pass.now }
+    ensures seat { Rests pool.now seat.new }
+    ensures pass { IsPassOf seat.new pass.now }
+    ensures told { OnOk result (told seat.new pass.now ≡ with_close (told seat.old pass.now)) }
+    ensures others { KeepsOthers seat.old pass.now seat.new }
+    ensures asked { Asked G.says gate.old gate.new }
+    ensures why { IfErr result (IsWhyStopped (SaidNo G.says gate.old gate.new)) }
+{
+    for _ in rt.forever() {
+        if pool.end(seat, pass).is_ok() {
+            return Ok(());
+        }
+        if !gate.at(Place::Waiting) {
+            return Err(TranscodeFault::NotFinished);
+        }
+    }
+    unreachable!()
+}
+
+/// Sends a session that has just begun a whole payload, and ends it. `NotFinished` where the gate says no, `NoMemory`
+/// where memory ran out.
+pub(crate) fn feed<'p, R: Wait, G: Gate>(
+    rt: &R,
+    pool: &SessionPool<'p>,
+    seat: &mut ClientSeat<'p>,
+    gate: &mut G,
+    pass: &Pass,
+    payload: Vec<u8>,
+) -> Result<(), TranscodeFault>
+    requires seat { Rests pool.now seat.old }
+    requires pass { IsPassOf seat.old pass.now }
+    requires begun { told seat.old pass.now ≡ new_account pass.now.pair.program }
+    requires size { vec_len payload ≤ MOST_PAYLOAD }
+    ensures seat { Rests pool.now seat.new }
+    ensures pass { IsPassOf seat.new pass.now }
+    ensures told { OnOk result (told seat.new pass.now
+        ≡ with_close (with_sent payload.items (new_account pass.now.pair.program))) }
+    ensures others { KeepsOthers seat.old pass.now seat.new }
+    ensures asked { Asked G.says gate.old gate.new }
+    ensures why { IfErr result (IsWhyStopped (SaidNo G.says gate.old gate.new)) }
+{
+    if let Err(fault) = send(rt, pool, seat, gate, pass, payload) {
+        return Err(fault);
+    }
+    close(rt, pool, seat, gate, pass)
+}
+
+/// How many times it is tried, at most, to abandon a session.
+pub const MOST_ABANDONS: u32 = 1_000;
+
+/// Abandons a session. While a worker has it, it asks the gate and tries again, whatever the gate says; a session
+/// that a worker still has at the last try leaves its slot taken for good.
+pub(crate) fn abandon<'p, G: Gate>(
+    pool: &SessionPool<'p>,
+    seat: &mut ClientSeat<'p>,
+    gate: &mut G,
+    pass: Pass,
+)
+    requires seat { Rests pool.now seat.old }
+    requires pass { IsPassOf seat.old pass }
+    ensures seat { Rests pool.now seat.new }
+    ensures asked { Asked G.says gate.old gate.new }
+    ensures over { IsGivenUp seat.old pass seat.new }
+{
+    let mut held = pass;
+    for _try in 0..MOST_ABANDONS {
+        match pool.abandon(seat, held) {
+            Ok(()) => return,
+            Err(back) => held = back.pass,
+        }
+        gate.at(Place::Waiting);
+    }
+}
+
+/// Returns the outcome that a session comes to, of all that it was sent. Until it is there it asks the gate and tries
+/// again. The error is `NotFinished` where the gate says no, and then the session is abandoned; `NoMemory` where
+/// memory ended it.
+pub(crate) fn finish<'p, R: Wait, G: Gate>(
+    rt: &R,
+    pool: &SessionPool<'p>,
+    seat: &mut ClientSeat<'p>,
+    gate: &mut G,
+    pass: Pass,
+) -> Result<Outcome, TranscodeFault>
+    requires seat { Rests pool.now seat.old }
+    requires pass { IsPassOf seat.old pass }
+    ensures seat { Rests pool.now seat.new }
+    ensures outcome { IfOk result (IsOutcomeOf pass (told seat.old pass).sent) }
+    ensures why { IfErr result (IsWhyStopped (SaidNo G.says gate.old gate.new)) }
+    ensures over { OnErr result (IsGivenUp seat.old pass seat.new) }
+{
+    let mut held = pass;
+    for _ in rt.forever() {
+        match pool.result(seat, held) {
+            Ok(Finished { end, .. }) => match end {
+                SessionEnd::Out(outcome) => return Ok(outcome),
+                SessionEnd::NoMemory => return Err(TranscodeFault::NoMemory),
+                SessionEnd::Trap(_) => unreachable!(),
+            },
+            Err(back) => held = back.pass,
+        }
+        if !gate.at(Place::Waiting) {
+            abandon(pool, seat, gate, held);
+            return Err(TranscodeFault::NotFinished);
+        }
+    }
+    unreachable!()
 }

@@ -15,9 +15,8 @@ ghost use Rattle.gateway_core.specs.Transcoding.{IsWhyNone};
 
 use crate::app::App;
 use crate::gate::Gate;
-use crate::messages::{MessageFor, NamedPair, Rewritten, Unpaired, rewrite};
+use crate::messages::{MessageFor, NamedPair, Rewritten, Schemas, Unpaired, rewrite};
 use crate::replying::bytes_of;
-use crate::schemas::Schemas;
 use crate::transcode::Transcode;
 use gateway_requests::{Answer, AnswerBytes, Fault, Request, schema_text};
 use schema_registry::{Receipt, SharedRegistry};

@@ -14,3 +14,5 @@ pub mod Targets
 pub mod Fronts
 pub mod Numbers
 pub mod Floats
+pub mod Receiving
+pub mod Sent

@@ -7,3 +7,7 @@ pub mod Front
 pub mod RequestBody
 pub mod Fault
 pub mod Answer
+pub mod Exchange
+pub mod Reception
+pub mod Stages
+pub mod Laws

@@ -1,19 +1,22 @@
-//! What an action asks for, by the path and the body.
+//! What a request asks for: the action, by its head, and the rest, by its path and its body.
 
-ghost use Rattle.std.specs.Prelude.{◌≡◌, IfOk, option_map, string_bytes};
+ghost use Rattle.std.specs.Prelude.{◌≡◌, ◌≤◌, IfOk, option_map, string_bytes};
 ghost use Rattle.schema_registry.specs.Command.{command_of};
-ghost use Rattle.spec_service.specs.Asking.{asked_for, question, setting};
+ghost use Rattle.spec_service.specs.Asking.{action_at, asked_for, chosen, question, setting};
 ghost use Rattle.gateway_requests.specs.Request.{request_of};
 ghost use Rattle.gateway_requests.specs.Sizes.{IsWithin, size_of};
 ghost use Rattle.gateway_requests.specs.Steps.{Tells};
+ghost use Rattle.httparse.specs.Grammar.{RequestHead};
+ghost use Rattle.httparse.specs.Spans.{IsRequestAt, IsRequestWithin};
 
-use crate::Fault;
-use crate::action::Action;
 use crate::json_body::{level_of, text_of, whole_body};
-use crate::parameters::{id_of, subject_of, version_of};
-use crate::path::segment;
+use crate::limits::MOST_BODY;
 use crate::request::Request;
+use crate::route::{Action, Routes, action_of, id_of, path_of, segment, subject_of, version_of};
+use crate::{Fault, content_length};
+use httparse::spans::{HeaderSpan, RequestSpans};
 use schema_registry::Command;
+pub use spec_service::Chosen;
 use std::alloc::{AllocError, Global};
 use wire_frames::Message;
 
@@ -138,4 +141,49 @@ pub fn transcoding_of(path: &[u8], message: Option<Message>) -> Result<Request, 
     };
     let reader = id_of(segment(2, path))?;
     Ok(Request::Transcoding { reader, message })
+}
+
+/// Returns what a method asks for at a target; or the first fault of its route and its method.
+pub fn action_at(routes: &Routes, method: &[u8], target: &str) -> Result<Action, Fault>
+    ensures { result ≡ action_at method.now target.now }
+{
+    let Some(route) = routes.find(path_of(target.as_bytes())) else {
+        return Err(Fault::NoRoute);
+    };
+    match action_of(route, method) {
+        Some(action) => Ok(action),
+        None => Err(Fault::NotAllowed),
+    }
+}
+
+/// Returns what a head asks for, whose parts are in `bytes` where the spans say; or the first fault of its length,
+/// its route, its method and the body's size.
+pub fn choose(
+    routes: &Routes,
+    bytes: &[u8],
+    headers: &[HeaderSpan],
+    head: &RequestSpans,
+) -> Result<Chosen, Fault>
+    requires head { (h : RequestHead) × IsRequestAt bytes.now headers.now head.now h }
+    requires within { IsRequestWithin bytes.now headers.now head.now }
+    ensures chosen { (h : RequestHead) → IsRequestAt bytes.now headers.now head.now h → chosen h ≡ result }
+    ensures size { IfOk result (λ chosen. chosen.body_length ≤ MOST_BODY) }
+{
+    let fields = &headers[..head.headers];
+    let Some(length) = content_length(bytes, fields, MOST_BODY as u64 + 1) else {
+        return Err(Fault::BadRequest);
+    };
+    let Some(route) = routes.find(path_of(head.path.of(bytes))) else {
+        return Err(Fault::NoRoute);
+    };
+    let Some(action) = action_of(route, head.method.of(bytes)) else {
+        return Err(Fault::NotAllowed);
+    };
+    if length > MOST_BODY as u64 {
+        return Err(Fault::TooLarge);
+    }
+    Ok(Chosen {
+        action,
+        body_length: length as usize,
+    })
 }

@@ -13,7 +13,7 @@ use Rattle.upstream_fetching.proofs.Crossing.{queue-sync}
 use Rattle.gateway_server.specs.contracts.beside.Beside as beside
 use Rattle.gateway_server.specs.contracts.beside.FetchNotes as notes
 use Rattle.gateway_server.specs.contracts.beside.Questions as questions
-use Rattle.gateway_front.proofs.connections.Connections.TheSendSync as connections
+use Rattle.gateway_server.proofs.connections.Connections.TheSendSync as connections
 use Rattle.schema_registry.proofs.Crossing.{shared-sync}
 use Rattle.session_pool.proofs.Crossing.{client-send, pool-sync, worker-send}
 use Rattle.gateway_server.proofs.signals.Signals.TheSendSync as signals

@@ -9,7 +9,7 @@ use Rattle.gateway_requests.specs.Steps.{Tells}
 use Rattle.gateway_requests.specs.declared.request.Request as rust
 use Rattle.spec_service.specs.Answered.{Answered, IsAnswered}
 use Rattle.spec_service.specs.Handing.{Handed}
-use Rattle.gateway_front.specs.Handing.{AsksOver}
+use Rattle.gateway_server.specs.Handing.{AsksOver}
 use Rattle.spec_service.specs.Replying.{IsRepliedOver}
 
 pub replied_over : (replies : Result Request Fault → List ℕ → ℕ → Type 0) (asking connection : Handed)

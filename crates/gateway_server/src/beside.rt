@@ -3,8 +3,8 @@
 ghost use Rattle.std.specs.Prelude.{◌≡◌};
 ghost use Rattle.gateway_server.specs.Options.{IsWithin};
 
+use crate::Fetch;
 use crate::options::ServeOptions;
-use gateway_front::Fetch;
 use gateway_requests::Fault;
 use mio::Waker;
 use schema_registry::{KeepFault, SharedRegistry};

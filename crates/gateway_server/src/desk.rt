@@ -3,7 +3,7 @@
 ghost use Rattle.std.specs.Prelude.{◌≡◌, IfSome};
 
 use crate::beside::Beside;
-use gateway_front::{Fetch, PendingRequest};
+use crate::{Fetch, PendingRequest};
 use gateway_requests::{Fault, Request, UpstreamFault};
 use gateway_upstream::{Looked, needed_by};
 use std::alloc::Global;

@@ -4,12 +4,12 @@ ghost use Rattle.std.specs.Option.{ForSome};
 ghost use Rattle.std.specs.Prelude.{◌≡◌, All};
 ghost use Rattle.session_pool.specs.Seats.{IsNewClient, IsNewWorker};
 
+use crate::Connections;
 use crate::beside::Beside;
 use crate::client::{Client, run_client};
 use crate::shared::Shared;
 use crate::worker::{Worker, run_worker};
 use gateway::{pop_client, pop_worker};
-use gateway_front::Connections;
 use session_pool::{ClientSeat, WorkerSeat};
 use std::alloc::AllocError;
 use std::sync::Wait;

@@ -3,11 +3,11 @@
 ghost use Rattle.std.specs.Prelude.{◌≡◌, IfSome};
 ghost use Rattle.session_pool.specs.Seats.{Rests};
 
+use crate::Event;
+use crate::client::reply_by_ids;
 use crate::desk::{Desk, Ready};
 use crate::gate::ClientGate;
-use crate::replying::reply_by_ids;
 use gateway::App;
-use gateway_front::Event;
 use session_pool::ClientSeat;
 use std::sync::Wait;
 use std::time::Clock;

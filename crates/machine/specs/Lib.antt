@@ -3,3 +3,10 @@ pub mod Pair
 pub mod Ending
 pub mod Transcoding
 pub mod Laws
+pub mod Running
+pub mod Contract
+pub mod Memory
+pub mod RowContract
+pub mod Slice
+pub mod Start
+pub mod WholePayload

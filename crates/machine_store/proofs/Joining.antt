@@ -6,7 +6,7 @@ use Rattle.std.proofs.lemmas.Bool.Decides.{eqb_tells}
 use Rattle.std.proofs.lemmas.List.{append-nil, drop-drop, drop-map, drop_all, get_or_append_left, get_or_at, length-map}
 use Rattle.machine_store.specs.declared.buffers.Buffer.{Buffer}
 use Rattle.machine_store.specs.declared.buffers.Buffer.TheVariants as buffers
-use Rattle.machine_store.specs.declared.segment.Segment.{Segment}
+use Rattle.machine_store.specs.declared.ropes.Segment.{Segment}
 use Rattle.machine_store.specs.Buffers.{AllHeld, AreRopes, IsHeld, IsLater, segments_of}
 use Rattle.machine_store.specs.Ropes.{rope_at}
 use Rattle.machine_store.specs.Segments.{AreSegments, IsSegment, bytes_at, bytes_of, with_lists, with_segment, with_segments}

@@ -5,7 +5,7 @@ use Rattle.std.proofs.lemmas.Bool.{eq-eqb, eqb-true}
 use Rattle.std.proofs.lemmas.Bool.Decides.{eqb_tells}
 use Rattle.std.proofs.lemmas.List.{append-nil, drop-append-le, length-drop, take-append-le}
 use Rattle.spec_avro.specs.Blocks.{joined}
-use Rattle.machine_store.specs.declared.segment.Segment.{Segment}
+use Rattle.machine_store.specs.declared.ropes.Segment.{Segment}
 use Rattle.machine_store.specs.Segments.{AreSegments, AreWithin, IsApart, IsSegment, bytes_at, bytes_of, with_bytes, with_lists, with_segment, with_segments}
 use Rattle.machine_store.proofs.Joining.{bytes-with_segment}
 

@@ -11,3 +11,5 @@ pub mod Dropping
 pub mod Viewing
 pub mod Roping
 pub mod Writing
+pub mod Characters
+pub mod Checking

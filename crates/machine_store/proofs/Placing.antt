@@ -7,7 +7,7 @@ use Rattle.machine_store.specs.declared.buffers.Buffer.{Buffer}
 use Rattle.machine_store.specs.declared.buffers.Buffer.TheVariants as buffers
 use Rattle.machine_store.specs.declared.buffers.TargetBuffer.{TargetBuffer}
 use Rattle.machine_store.specs.declared.buffers.TargetBuffer.TheVariants as places
-use Rattle.machine_store.specs.declared.segment.Segment.{Segment}
+use Rattle.machine_store.specs.declared.ropes.Segment.{Segment}
 use Rattle.machine_store.specs.Buffers.{AllHeld, AreLaid, IsHeld, IsLaid, IsLater, IsPlace, Laid, buffer_at, laid_of, segments_at, segments_of, with_added, with_closed, with_none, with_opened}
 use Rattle.machine_store.specs.Segments.{AreSegments, AreWithin, with_bytes, with_lists}
 use Rattle.machine_store.proofs.Joining.{AllHeld-later, AreRopes-later, IsHeld-later, all-later, held-at, segments-later}

@@ -5,7 +5,7 @@ use Rattle.machine_store.specs.declared.buffers.Buffer.{Buffer}
 use Rattle.machine_store.specs.declared.buffers.Buffer.TheVariants as buffers
 use Rattle.machine_store.specs.declared.buffers.TargetBuffer.{TargetBuffer}
 use Rattle.machine_store.specs.declared.buffers.TargetBuffer.TheVariants as places
-use Rattle.machine_store.specs.declared.segment.Segment.{Segment}
+use Rattle.machine_store.specs.declared.ropes.Segment.{Segment}
 use Rattle.machine_store.specs.Buffers.{AllHeld, IsHeld, IsLaid, IsLater, IsPlace, Laid, buffer_at, laid_of, out_after, segments_at, segments_of, slots_after, with_added, with_closed}
 use Rattle.machine_store.specs.Ropes.{rope_at}
 use Rattle.machine_store.specs.Segments.{AreWithin, IsSegment, bytes_at, bytes_of, with_bytes, with_lists}

@@ -2,7 +2,7 @@
 use Rattle.std.proofs.Common.{◌≡◌, ◌≤◌, ◌^◌, min, ◌<◌, ℕ, zero, suc, ◌+◌, ◌-◌, List, [], ◌∷◌, ◌++◌, length, get_or, Some, slice_get, refl, sym, ap, ◌∙◌, subst, arith, length-append}
 use Rattle.std.proofs.lemmas.List.{get_or_append_left, get_or_at}
 use Rattle.machine_store.specs.declared.ropes.Joint.{Joint}
-use Rattle.machine_store.specs.declared.segment.Segment.{Segment}
+use Rattle.machine_store.specs.declared.ropes.Segment.{Segment}
 use Rattle.machine_store.specs.Ropes.{AreCounted, AreJoints, IsJoint, IsRoped, counted, joined_by, rope_at, ropes_from, ropes_of}
 
 pub ropes_from-push : (ropes : List (List Segment)) (js : List Joint) (j : Joint) →

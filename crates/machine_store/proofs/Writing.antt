@@ -2,7 +2,7 @@
 use Rattle.std.proofs.Common.{◌≡◌, ◌≤◌, ◌<◌, ℕ, ◌*◌, ◌-◌, List, [], ◌∷◌, ◌++◌, length, reverse, get_or, refl, sym, ap, ◌∙◌, subst, arith, append_assoc, length-append}
 use Rattle.std.proofs.lemmas.List.{append-nil, get_or_default, nil_from_length, reverse-append}
 use Rattle.machine_store.specs.declared.ropes.Joint.{Joint}
-use Rattle.machine_store.specs.declared.segment.Segment.{Segment}
+use Rattle.machine_store.specs.declared.ropes.Segment.{Segment}
 use Rattle.machine_store.specs.Ropes.{AreJoints, rope_at, ropes_of}
 use Rattle.machine_store.specs.Segments.{AreWithin, IsSegment, bytes_at, bytes_of}
 use Rattle.machine_store.proofs.Roping.{AreJoints-get, first_rope, how_many, rope_of}

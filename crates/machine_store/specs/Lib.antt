@@ -6,3 +6,7 @@ pub mod Store
 pub mod Viewing
 pub mod Segments
 pub mod Ropes
+pub mod Ending
+pub mod Chunks
+pub mod Text
+pub mod Laws

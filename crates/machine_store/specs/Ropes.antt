@@ -1,7 +1,7 @@
 -- Ropes: lists of segments, each of a segment between two earlier ones. All of this is this project's own.
 use Rattle.std.specs.Prelude.{◌≡◌, ℕ, suc, ◌≤◌, ◌-◌, ◌^◌, min, length, List, [], ◌∷◌, ◌++◌, get_or}
 use Rattle.machine_store.specs.declared.ropes.Joint.{Joint}
-use Rattle.machine_store.specs.declared.segment.Segment.{Segment}
+use Rattle.machine_store.specs.declared.ropes.Segment.{Segment}
 
 abbrev pub rope_at : List (List Segment) → ℕ → List Segment
 rope_at ropes number = get_or ropes number []

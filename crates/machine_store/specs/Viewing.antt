@@ -4,7 +4,7 @@ use Rattle.spec_machine.specs.State as state
 use Rattle.spec_machine.specs.State.{Store}
 use Rattle.machine_store.specs.declared.buffers.TargetBuffer.{TargetBuffer}
 use Rattle.machine_store.specs.declared.buffers.TargetBuffer.TheVariants as places
-use Rattle.machine_store.specs.declared.segment.Segment.{Segment}
+use Rattle.machine_store.specs.declared.ropes.Segment.{Segment}
 use Rattle.machine_store.specs.declared.store.Frame.{Frame}
 use Rattle.machine_store.specs.declared.store.Frame.TheVariants as frames
 use Rattle.machine_store.specs.declared.views.BufferAt.{BufferAt}

@@ -1,10 +1,9 @@
-//! Lists of segments that are joined without being copied.
+//! Lists of segments of the arena, which are joined without being copied.
 
-ghost use Rattle.std.specs.Prelude.{◌≡◌, ◌<◌, ◌-◌, ◌^◌, List, [], ◌∷◌, ◌++◌, length, slice_get, OnOk, OnErr, IfOk};
+ghost use Rattle.std.specs.Prelude.{◌++◌, ◌-◌, ◌<◌, ◌^◌, ◌∷◌, ◌≡◌, IfOk, List, OnErr, OnOk, [], length, slice_get};
 ghost use Rattle.machine_store.specs.Ropes.{counted, rope_at};
 ghost use Rattle.machine_store.specs.Segments.{AreWithin, bytes_of};
 
-use crate::segment::Segment;
 use std::alloc::{AllocError, Global};
 use std::marker::Model;
 
@@ -26,7 +25,7 @@ pub struct Ropes {
 
 impl Model for Ropes {
     ghost use Rattle.std.specs.Prelude.{List};
-    ghost use Rattle.machine_store.specs.declared.segment.Segment.{Segment};
+    ghost use Rattle.machine_store.specs.declared.ropes.Segment.{Segment};
 
     ghost Value = { List (List Segment) };
 
@@ -151,5 +150,26 @@ impl Ropes {
             }
         }
         None
+    }
+}
+
+/// The bytes of the arena from offset `place` up to offset `end`.
+#[derive(Clone, Copy, Debug, PartialEq, Eq)]
+pub struct Segment {
+    pub place: usize,
+    pub end: usize,
+}
+
+impl Segment {
+    ghost use Rattle.std.specs.Prelude.{◌≡◌, ◌≤◌, length};
+    ghost use Rattle.machine_store.specs.Segments.{bytes_at};
+
+    /// Returns its bytes in the arena.
+    pub fn bytes(self, arena: &[u8]) -> &[u8]
+        requires ordered { self.place ≤ self.end }
+        requires within { self.end ≤ length arena.now }
+        ensures { result.now ≡ bytes_at arena.now self }
+    {
+        &arena[self.place..self.end]
     }
 }

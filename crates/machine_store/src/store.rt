@@ -8,8 +8,8 @@ ghost use Rattle.machine_store.specs.Frames.{FewSlots, HasSlot, HoldsBuffers, fi
 ghost use Rattle.machine_store.specs.Store.{Appends, around_items, close_blocks, close_record, closed_between, leave, meter_of, next_item, next_skipped, select, with_frames};
 
 use crate::buffers::{Buffers, TargetBuffer};
+use crate::spell_around;
 use avro_bytes::{BlockWalk, MOST_OUTPUT, Meter};
-use machine_rules::spell_around;
 use std::alloc::{AllocError, Global};
 use std::marker::Model;
 

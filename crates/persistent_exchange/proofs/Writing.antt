@@ -7,10 +7,10 @@ use Rattle.std.specs.Io.KnownBytes.{Appends, Consumes, Keeps}
 use Rattle.http.specs.declared.request.Request.{Request}
 use Rattle.http_server.specs.Exchange.{Call, Calls, Chain}
 use Rattle.http_server.specs.declared.response.Response.{Response}
-use Rattle.gateway_exchange.specs.Exchange.{Gains}
+use Rattle.gateway_requests.specs.Exchange.{Gains}
 use Rattle.spec_service.specs.Persistent.{Persistent, received}
 use Rattle.persistent_exchange.specs.Persistent.{Sends, Writes, pending, sent}
-use Rattle.gateway_exchange.specs.Laws.Plain.{no_bytes}
+use Rattle.gateway_requests.specs.Laws.Plain.{no_bytes}
 
 -- nothing was written yet
 pub writes_none : (a : Option (List ℕ)) (p : Persistent) → Writes a a p p

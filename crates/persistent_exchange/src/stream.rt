@@ -1,7 +1,7 @@
 //! The requests of a connection that stays, one after another, and their answers.
 
 ghost use Rattle.std.specs.Prelude.{◌≡◌, IfErr, IfOk, IfSome, OnOk};
-ghost use Rattle.gateway_exchange.specs.Exchange.{Gains};
+ghost use Rattle.gateway_requests.specs.Exchange.{Gains};
 ghost use Rattle.http_server.specs.History.{IsServed};
 ghost use Rattle.spec_service.specs.StreamAnswering.{AnswersNext, CallsFor, IsNext};
 ghost use Rattle.persistent_exchange.specs.Persistent.{Writes, sent};
@@ -15,8 +15,7 @@ use crate::exchange::PersistentExchange;
 use crate::prepared::Prepared;
 use crate::scout::{Refusal, Sighting};
 use crate::whole_request::WholeRequest;
-use gateway_exchange::Progress;
-use gateway_requests::{AnswerBytes, Fault, MOST_BODY, MOST_HEAD, Routes, action_at};
+use gateway_requests::{AnswerBytes, Fault, MOST_BODY, MOST_HEAD, Progress, Routes, action_at};
 use http_server::Config;
 use http1::Limits;
 use httpdate::HttpDate;

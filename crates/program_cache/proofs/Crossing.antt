@@ -12,11 +12,11 @@ use Rattle.machine.proofs.Crossing.{pair-send, pair-sync}
 use Rattle.schema_registry.proofs.Crossing.{kept-send, kept-sync, shared-sync}
 use Rattle.program_cache.specs.contracts.cache.ProgramCache as cache
 use Rattle.program_cache.specs.contracts.cache.ProgramCache.TheInside as inside
-use Rattle.program_cache.specs.contracts.cells.Cells as cells
+use Rattle.program_cache.specs.contracts.compiled.Cells as cells
 use Rattle.program_cache.specs.contracts.compiled.Compiled as compiled
 use Rattle.program_cache.specs.contracts.compiled.LargePair as large
-use Rattle.program_cache.specs.contracts.known.KnownPair as known
-use Rattle.program_cache.specs.contracts.known.KnownPairs as table
+use Rattle.program_cache.specs.contracts.cache.KnownPair as known
+use Rattle.program_cache.specs.contracts.cache.KnownPairs as table
 
 large-send : IsSend large.the_row
 large-send = search (schema-send, crosses, sendable) depth 60 fits 20000

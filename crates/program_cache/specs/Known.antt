@@ -3,9 +3,9 @@ use Rattle.std.specs.Prelude.{◌≡◌, ◌<◌, ℕ, List, length, slice_index
 use Rattle.boxcar.specs.Slot.{Named}
 use Rattle.spec_registry.specs.Receipt.{IsReceiptOf, Shown}
 use Rattle.program_cache.specs.declared.compiled.Compiled.{Compiled}
-use Rattle.program_cache.specs.declared.known.KnownPair.{KnownPair}
-use Rattle.program_cache.specs.declared.known.KnownPairs.{KnownPairs}
-use Rattle.program_cache.specs.declared.known.TheConstants.{KNOWN}
+use Rattle.program_cache.specs.declared.cache.KnownPair.{KnownPair}
+use Rattle.program_cache.specs.declared.cache.KnownPairs.{KnownPairs}
+use Rattle.program_cache.specs.declared.cache.TheConstants.{KNOWN}
 use Rattle.program_cache.specs.Compiled.{IsCompiled}
 
 -- what the schemas of two receipts were compiled to

@@ -1,19 +1,21 @@
-//! The programs of pairs of a registry's schemas.
+//! The programs of pairs of a registry's schemas: where the cell of a pair of ids is, and the pairs that are known by
+//! their receipts.
 
-ghost use Rattle.std.specs.Prelude.{◌≡◌, IfOk, IfSome};
-ghost use Rattle.program_cache.specs.Numbers.{number_of_place, pair_number};
+ghost use Rattle.std.specs.Prelude.{◌<◌, ◌^◌, ◌↔◌, ◌≡◌, IfErr, IfOk, IfSome, true};
+ghost use Rattle.program_cache.specs.Numbers.{HaveTheirOwnNumbers, IsId, number_of_place, pair_number};
 ghost use Rattle.program_cache.specs.Pairs.{IsPairAnswer};
 ghost use Rattle.spec_registry.specs.Receipt.{IsReceiptOf};
 ghost use Rattle.session_core.specs.Publishing.{IsPublished};
+ghost use Rattle.program_cache.specs.declared.cache.TheConstants.{KNOWN};
+ghost use Rattle.program_cache.specs.declared.compiled.TheConstants.{CELLS};
 
-use crate::cells::{Cells, NumberedCell};
-use crate::compiled::Compiled;
-use crate::known::KnownPairs;
-use crate::place::Place;
+use crate::compiled::{CELLS, Cells, Compiled, NumberedCell};
 use crate::refusal::PairRefusal;
 use avro_schema::Schema;
+use boxcar::slot::{OnceSlot, SlotRule};
+use boxcar::tag::{Names, Tag};
 use machine::{PairProgram, PlannedProgram};
-use schema_registry::{MOST_SCHEMAS, Receipt, SharedRegistry};
+use schema_registry::{KeptReceipt, MOST_SCHEMAS, Receipt, SharedRegistry};
 use session_core::{Programs, PublishError};
 use std::alloc::{AllocError, Global};
 use std::marker::Model;
@@ -224,3 +226,194 @@ impl<'r> Programs for ProgramCache<'r> {
         self.program(&mut writer, &mut reader)
     }
 }
+
+/// How many slots the table has.
+const KNOWN: usize = 16_384;
+
+/// How many slots of the table a pair has.
+const TRIED: usize = 8;
+
+/// A pair of schemas, by receipts of both that were kept, and what it was compiled to.
+#[derive(Drop)]
+pub(crate) struct KnownPair {
+    writer: KeptReceipt,
+    reader: KeptReceipt,
+    compiled: Box<Compiled>,
+}
+
+/// The rule of a slot, whose tag is the registry's cells: a pair there has receipts of these.
+pub(crate) struct OfRegistry;
+
+impl SlotRule<KnownPair> for OfRegistry {
+    ghost use Rattle.program_cache.specs.Known.{IsKnownPair};
+
+    ghost holds = { IsKnownPair };
+}
+
+/// A slot is tagged with the names of the registry's cells.
+struct ItsCells;
+
+impl Names<SharedRegistry> for ItsCells {
+    ghost numbers = { λ registry. registry };
+}
+
+/// A table of pairs, each in a slot that is written once. A pair has few slots, by its ids.
+#[derive(Drop)]
+pub(crate) struct KnownPairs {
+    slots: Vec<OnceSlot<KnownPair, OfRegistry>>,
+}
+
+impl KnownPair {
+    ghost use Rattle.program_cache.specs.Known.{IsCompiledOf, IsKnownPair};
+
+    /// Returns whether it is the pair of two receipts' schemas: exactly where it has their ids.
+    fn is_of(&self, registry: &SharedRegistry, writer: &mut Receipt, reader: &mut Receipt) -> bool
+        requires pair { IsKnownPair registry.now self.now }
+        requires writer { IsReceiptOf registry.now writer.old }
+        requires reader { IsReceiptOf registry.now reader.old }
+        ensures same { (writer.new ≡ writer.old) × (reader.new ≡ reader.old) }
+        ensures ids { result ≡ true ↔ ((self.now.writer.id ≡ writer.old.id) × (self.now.reader.id ≡ reader.old.id)) }
+        ensures compiled { result ≡ true → IsCompiledOf writer.old reader.old self.now.compiled.value }
+    {
+        if self.writer.id() != writer.id() || self.reader.id() != reader.id() {
+            return false;
+        }
+        registry.agree_with_kept(writer, &self.writer); // law
+        registry.agree_with_kept(reader, &self.reader); // law
+        true
+    }
+}
+
+/// Returns the index of the first slot of a pair.
+fn home_of(writer: &Receipt, reader: &Receipt) -> usize
+    ensures { result < KNOWN }
+{
+    (writer.id() as usize * 251 + reader.id() as usize) % KNOWN
+}
+
+impl KnownPairs {
+    ghost use Rattle.program_cache.specs.Known.{IsCompiledOf, IsKnownPair, IsTableOf};
+
+    /// Returns a table with nothing in it, for receipts of a registry.
+    pub(crate) fn new(alloc: Global, registry: &SharedRegistry) -> Result<KnownPairs, AllocError>
+        ensures { IfOk result (IsTableOf registry.now) }
+    {
+        let tag = Tag::of::<SharedRegistry, ItsCells>(registry);
+        let mut slots = Vec::new(alloc);
+        for _ in 0..KNOWN {
+            slots.push(OnceSlot::new(&tag))?;
+        }
+        Ok(KnownPairs { slots })
+    }
+
+    /// Returns what the pair of two receipts' schemas was compiled to, where the table has it.
+    pub(crate) fn find(
+        &self,
+        registry: &SharedRegistry,
+        writer: &mut Receipt,
+        reader: &mut Receipt,
+    ) -> Option<&Compiled>
+        requires table { IsTableOf registry.now self.now }
+        requires writer { IsReceiptOf registry.now writer.old }
+        requires reader { IsReceiptOf registry.now reader.old }
+        ensures same { (writer.new ≡ writer.old) × (reader.new ≡ reader.old) }
+        ensures found { IfSome result (λ compiled. IsCompiledOf writer.old reader.old compiled.now) }
+    {
+        let home = home_of(writer, reader);
+        for step in 0..TRIED {
+            let known = self.slots[(home + step) % KNOWN].get()?;
+            if known.is_of(registry, writer, reader) {
+                return Some(&known.compiled);
+            }
+        }
+        None
+    }
+
+    /// Keeps what the pair of two receipts' schemas was compiled to, or finds that it was kept meanwhile. Returns
+    /// what is kept; the error hands it back where the pair's slots have others.
+    pub(crate) fn keep(
+        &self,
+        registry: &SharedRegistry,
+        writer: &mut Receipt,
+        reader: &mut Receipt,
+        compiled: Box<Compiled>,
+    ) -> Result<&Compiled, Box<Compiled>>
+        requires table { IsTableOf registry.now self.now }
+        requires writer { IsReceiptOf registry.now writer.old }
+        requires reader { IsReceiptOf registry.now reader.old }
+        requires compiled { IsCompiledOf writer.old reader.old compiled.value }
+        ensures same { (writer.new ≡ writer.old) × (reader.new ≡ reader.old) }
+        ensures kept { IfOk result (λ kept. IsCompiledOf writer.old reader.old kept.now) }
+        ensures back { IfErr result (λ back. back.value ≡ compiled.value) }
+    {
+        let home = home_of(writer, reader);
+        let mut pair = KnownPair {
+            writer: writer.keep(),
+            reader: reader.keep(),
+            compiled,
+        };
+        for step in 0..TRIED {
+            let slot = &self.slots[(home + step) % KNOWN];
+            pair = match slot.set(pair) {
+                Ok(kept) => return Ok(&kept.compiled),
+                Err(back) => back,
+            };
+            if let Some(known) = slot.get() {
+                if known.is_of(registry, writer, reader) {
+                    return Ok(&known.compiled);
+                }
+            }
+        }
+        let KnownPair {
+            writer: _writer,
+            reader: _reader,
+            compiled,
+        } = pair;
+        Err(compiled)
+    }
+}
+
+/// Where the cell of a pair is: which of the cells in a row to go by, level by level from the top.
+#[derive(Clone, Copy)]
+pub(crate) struct Place {
+    pub(crate) first: usize,
+    pub(crate) second: usize,
+    pub(crate) third: usize,
+    pub(crate) fourth: usize,
+    ghost within: { (first < CELLS) × (second < CELLS) × (third < CELLS) × (fourth < CELLS) },
+}
+
+impl Place {
+    ghost use Rattle.std.specs.Prelude.{◌≡◌};
+    ghost use Rattle.program_cache.specs.Numbers.{IsId, number_of_place, pair_number};
+
+    /// Returns the place of the cell of a pair of ids.
+    pub(crate) fn of(writer: u32, reader: u32) -> Place
+        requires writer { IsId writer }
+        requires reader { IsId reader }
+        ensures { number_of_place result ≡ pair_number writer reader }
+    {
+        let number = pair_number(writer, reader);
+        Place {
+            first: number / CELLS / CELLS / CELLS,
+            second: number / CELLS / CELLS % CELLS,
+            third: number / CELLS % CELLS,
+            fourth: number % CELLS,
+        }
+    }
+}
+
+/// Returns the number of a pair of ids, from 0: all pairs of the writer with id 1 come first.
+pub(crate) fn pair_number(writer: u32, reader: u32) -> usize
+    requires writer { IsId writer }
+    requires reader { IsId reader }
+    ensures number { result ≡ pair_number writer reader }
+    ensures within { result < CELLS ^ 4 }
+{
+    (writer as usize - 1) * MOST_SCHEMAS + reader as usize - 1
+}
+
+/// The law that no two pairs of ids have one number.
+pub fn pairs_have_their_own_numbers()
+    ensures { HaveTheirOwnNumbers }
+{}

@@ -4,15 +4,10 @@
 #![tactic(auto)]
 
 mod cache;
-mod cells;
 mod compiled;
-mod known;
-mod number;
-mod place;
 mod refusal;
 
-pub use cache::ProgramCache;
+pub use cache::{ProgramCache, pairs_have_their_own_numbers};
 pub use compiled::{Compiled, LargePair};
-pub use number::pairs_have_their_own_numbers;
 pub use refusal::PairRefusal;
 pub use session_core::{Programs, PublishError};

@@ -3,7 +3,7 @@ use denote.Param.Send.{IsSend, IsSync, sendable}
 use denote.Ref.{NamedLft}
 use Rattle.std.proofs.Crossing.{crosses}
 use Rattle.machine_plan.proofs.Crossing.{planned-sync}
-use Rattle.machine_stepper.proofs.Crossing.{machine-send, machine-sync}
+use Rattle.machine.proofs.MachineCrossing.{machine-send, machine-sync}
 use Rattle.session_core.specs.contracts.session.Session as session
 
 pub session-send : (κ : NamedLft) → IsSend (session.the_row κ)

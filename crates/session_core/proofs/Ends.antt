@@ -14,7 +14,7 @@ use Rattle.spec_avro.specs.declared.limits.TheConstants.{MOST_PAYLOAD}
 use Rattle.spec_machine.specs.Alone.{EndsAreLast, RowsAreCounted, RunsGoOn, rows_from, run_alone}
 use Rattle.spec_machine.specs.Simulation.{EndsWithOutcome}
 use Rattle.machine.specs.Ending.{LeadsToOutcome}
-use Rattle.machine_stepper.specs.Slice.{IsWhy}
+use Rattle.machine.specs.Slice.{IsWhy}
 use Rattle.spec_machine.specs.Breakpoints.{stops_at}
 use Rattle.session_core.specs.declared.slice.Stopped.{Stopped}
 use Rattle.session_core.specs.declared.slice.Stopped.TheVariants.{Ended, Spent, Broke, Waits}

@@ -10,9 +10,9 @@ use Rattle.spec_machine.specs.State as state
 use Rattle.spec_machine.specs.State.{State}
 use Rattle.machine.specs.Laws.Rows.{rows_run}
 use Rattle.spec_machine.specs.Alone.{RowsAreCounted, RunsGoOn, run_alone}
-use Rattle.machine_stepper.specs.declared.slice.Why.{Why}
-use Rattle.machine_stepper.specs.declared.slice.Why.TheVariants.{Broke, Ended, NoMemory, Spent, Waits}
-use Rattle.machine_stepper.specs.Slice.{IsWhy, Rows}
+use Rattle.machine.specs.declared.slice.Why.{Why}
+use Rattle.machine.specs.declared.slice.Why.TheVariants.{Broke, Ended, NoMemory, Spent, Waits}
+use Rattle.machine.specs.Slice.{IsWhy, Rows}
 use Rattle.spec_machine.specs.Breakpoints.{stops_at}
 use Rattle.spec_sessions.specs.Rows.{is_counted_out, slice_from}
 

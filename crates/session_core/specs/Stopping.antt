@@ -1,9 +1,9 @@
 -- Why no more rows were taken of a session. All of this is this project's own.
 use Rattle.std.specs.Prelude.{◌≡◌, ℕ, Bool, true, false, List, Some}
 use Rattle.spec_machine.specs.State.{State}
-use Rattle.machine_stepper.specs.declared.slice.Why.{Why}
-use Rattle.machine_stepper.specs.declared.slice.Why.TheVariants as whys
-use Rattle.machine_stepper.specs.Slice.{IsWhy}
+use Rattle.machine.specs.declared.slice.Why.{Why}
+use Rattle.machine.specs.declared.slice.Why.TheVariants as whys
+use Rattle.machine.specs.Slice.{IsWhy}
 use Rattle.session_core.specs.declared.slice.Stopped.{Stopped}
 use Rattle.session_core.specs.declared.slice.Stopped.TheVariants.{Ended, Spent, Broke, Waits}
 use Rattle.spec_sessions.specs.Session.{Session, state_of}

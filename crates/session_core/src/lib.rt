@@ -16,7 +16,6 @@ mod running;
 mod session;
 mod session_refusal;
 mod slice;
-mod taking;
 mod world;
 
 pub use act::Act;

@@ -1,22 +1,25 @@
 //! A program run on bytes that come in pieces, with breakpoints.
 
-ghost use Rattle.std.specs.Prelude.{◌≡◌, ◌≤◌, ◌<◌, ◌+◌, [], if◌then◌else◌, false, is_some, length, option_map, slice_get, None, Some, IfErr, OnOk};
+ghost use Rattle.std.specs.Prelude.{◌+◌, ◌<◌, ◌≡◌, ◌≢◌, ◌≤◌, IfErr, None, OnOk, Some, [], false, if◌then◌else◌, is_some, length, option_map, slice_get};
 ghost use Rattle.machine.specs.Run.{IsCarry};
-ghost use Rattle.machine_stepper.specs.Running.{end_of as machine_end_of};
+ghost use Rattle.machine.specs.Running.{end_of as machine_end_of};
 ghost use Rattle.spec_machine.specs.Code.{code_of};
 ghost use Rattle.session_core.specs.Changes.{IsPieceRefusal};
 ghost use Rattle.spec_sessions.specs.Changes.{Maybe, Surely, break_refusal, clear_refusal, cleared_at, finished, piece_refusal, refused, set_at, with_piece};
 ghost use Rattle.session_core.specs.SessionEnding.{EndsInOneSlice, SessionLeadsToOutcome};
 ghost use Rattle.spec_sessions.specs.SessionEnding.{end_of};
 ghost use Rattle.session_core.specs.SessionKept.{IsMade, IsSession};
-ghost use Rattle.spec_sessions.specs.Rows.{TakesRows, go_rows, heeded, rows_under, slice_rows, walk_rows};
+ghost use Rattle.spec_sessions.specs.Rows.{TakesRows, go_rows, heeded, rows_under, slice_from, slice_rows, walk_rows};
 ghost use Rattle.spec_sessions.specs.Session.{OutOfMemory, end_in, has_break, session_end, state_of, without_break};
 ghost use Rattle.session_core.specs.Stopping.{IsStopped};
+ghost use Rattle.spec_machine.specs.Row.{row_of};
+ghost use Rattle.machine.specs.declared.slice.Why.TheVariants.{NoMemory};
+ghost use Rattle.spec_machine.specs.Memory.{GoesOn, MayGrow};
+ghost use Rattle.machine.specs.Slice.{IsWhy};
 
 use crate::limits::{MOST_BREAKS, MOST_ROOM};
 use crate::session_refusal::{BreakRefusal, ClearRefusal, PieceRefusal, RefusedPiece};
 use crate::slice::{Slice, Stopped};
-use crate::taking::take;
 use avro_bytes::MOST_PAYLOAD;
 use avro_types::Nodes;
 use isa::{End, Program};
@@ -432,4 +435,27 @@ impl<'p> Session<'p> {
         self.run.is_alone(); // law
         self.run.ends_with_the_outcome(writer, reader); // law
     }
+}
+
+/// Takes at most `limit` rows of a run, none at a breakpoint at which no content is begun. Returns how many, and why
+/// no more.
+pub(crate) fn take(run: &mut Run, breaks: &[u32], limit: u64) -> machine::Slice
+    ensures all { result.why ≢ NoMemory → result.rows
+        ≡ slice_from run.old.program run.old.input run.old.ended breaks.now limit run.old.machine.state }
+    ensures fewer { result.why ≡ NoMemory → result.rows
+        < slice_from run.old.program run.old.input run.old.ended breaks.now limit run.old.machine.state }
+    ensures most { result.rows ≤ limit }
+    ensures count { run.new.machine.state.count ≡ run.old.machine.state.count + result.rows }
+    ensures why { IsWhy run.old.program run.old.input run.old.ended breaks.now result.why limit result.rows
+        run.new.machine.state }
+    ensures memory { result.why ≡ NoMemory → MayGrow (slice_get run.old.program.code run.new.machine.state.pc) }
+    ensures goes_on { result.why ≡ NoMemory → GoesOn run.new.machine.state
+        (row_of run.old.program run.old.input run.old.ended run.new.machine.state) }
+    ensures kept { run.new ≡ record run.old { machine = run.new.machine } }
+{
+    runs_alone_are_counted_and_stay(); // law
+    run.is_alone(); // law
+    let slice = run.slice(breaks, limit);
+    let _counted = run.machine().count(); // read for the proof
+    slice
 }

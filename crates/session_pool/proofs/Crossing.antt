@@ -5,9 +5,9 @@ use denote.Param.SendFields.{FieldsHave, declared_send, declared_sync, as_row_se
 use denote.Ref.{NamedLft}
 use Rattle.std.proofs.Crossing.{crosses, sync}
 use Rattle.program_cache.proofs.Crossing.{cache-sync, compiled-sync}
-use Rattle.session_pool_jobs.proofs.Crossing.{jobs-sync, seat-send as job-seat-send}
+use Rattle.session_pool.proofs.JobCrossing.{jobs-sync, seat-send as job-seat-send}
 use Rattle.session_pool_slots.proofs.Crossing.{seat-send as slot-seat-send, slots-sync}
-use Rattle.session_pool.specs.contracts.pass.Pass as pass
+use Rattle.session_pool.specs.contracts.pool.Pass as pass
 use Rattle.session_pool.specs.contracts.pool.ClientSeat as client
 use Rattle.session_pool.specs.contracts.pool.SessionPool as pool
 use Rattle.session_pool.specs.contracts.pool.WorkerSeat as worker

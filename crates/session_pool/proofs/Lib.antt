@@ -7,3 +7,8 @@ pub mod Pairs
 pub mod Passes
 pub mod Refused
 pub mod Searches
+mod Balance
+mod Places
+mod Making
+pub mod Steals
+pub mod JobCrossing

@@ -9,3 +9,8 @@ pub mod Finishing
 pub mod Searching
 pub mod Turning
 pub mod Order
+pub mod Tallies
+pub mod Passes
+pub mod JobSeats
+pub mod Calls
+pub mod Thefts

@@ -2,8 +2,8 @@
 use Rattle.std.specs.Prelude.{◌≡◌, ◌⊎◌, ℕ, [], ◌∷◌, ◌++◌, Option, Some, None}
 use Rattle.spec_machine.specs.Program.{Program}
 use Rattle.spec_sessions.specs.Session.{Session}
-use Rattle.session_pool_jobs.specs.Calls.{IsEmpty}
-use Rattle.session_pool_jobs.specs.Seats as jobs
+use Rattle.session_pool.specs.Calls.{IsEmpty}
+use Rattle.session_pool.specs.JobSeats as jobs
 use Rattle.session_pool_slots.specs.Results as results
 use Rattle.session_pool_slots.specs.Steps.{handing}
 use Rattle.session_pool_slots.specs.Words.{ended, free, ready}

@@ -4,8 +4,7 @@ ghost use Rattle.std.specs.Prelude.{◌≡◌};
 ghost use Rattle.session_pool.specs.Seats.{HandsBackOne};
 
 use crate::debug_error::DebugError;
-use crate::pass::Pass;
-use crate::pool::{ClientSeat, SessionPool};
+use crate::pool::{ClientSeat, Pass, SessionPool};
 use debugger::{list, show};
 use session_core::Act;
 use session_pool_slots::word_after;

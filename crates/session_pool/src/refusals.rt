@@ -1,6 +1,6 @@
 //! Why a call of the pool was refused.
 
-use crate::pass::Pass;
+use crate::pool::Pass;
 use session_core::PieceRefusal;
 use thiserror::Error;
 

@@ -13,9 +13,9 @@ use Rattle.atomic_table.proofs.owned.Table.TheSendSync as tables
 use Rattle.atomic_table.proofs.shared.Seat.TheSendSync as table_seats
 use Rattle.session_core.specs.contracts.session.Session as session
 use Rattle.session_core.proofs.Crossing.{session-send}
-use Rattle.session_pool_slots.specs.contracts.view.View as view
-use Rattle.session_pool_slots.specs.contracts.kinds.Order as order
-use Rattle.session_pool_slots.specs.contracts.kinds.OrderTableRuleOptionSessionViewUnit.TheImpl as order_ghosts
+use Rattle.session_pool_slots.specs.contracts.slots.View as view
+use Rattle.session_pool_slots.specs.contracts.slots.Order as order
+use Rattle.session_pool_slots.specs.contracts.slots.OrderTableRuleOptionSessionViewUnit.TheImpl as order_ghosts
 use Rattle.session_pool_slots.specs.contracts.slots.SessionSlots as slots
 use Rattle.session_pool_slots.specs.contracts.slots.SlotSeat as seats
 

@@ -3,7 +3,7 @@ use Rattle.std.proofs.Common.{◌≡◌, ℕ, Bool, true, false, List, Option, S
 use Rattle.std.specs.Option.{option_and_then}
 use Rattle.spec_machine.specs.State as states
 use Rattle.spec_machine.specs.State.{State}
-use Rattle.machine_stepper.specs.Slice.{IsWhy}
+use Rattle.machine.specs.Slice.{IsWhy}
 use Rattle.session_core.specs.declared.slice.Stopped.{Stopped}
 use Rattle.session_core.specs.declared.slice.Stopped.TheVariants.{Broke, Ended, Spent, Waits}
 use Rattle.spec_sessions.specs.Session.{OutOfMemory, Session, machine_end, session_end, state_of}

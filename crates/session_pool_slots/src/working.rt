@@ -5,9 +5,7 @@ ghost use Rattle.session_pool_slots.specs.Words.{ready, slots};
 ghost use Rattle.session_pool_slots.specs.Results.{HasNoted, HasSame, words_of};
 ghost use Rattle.session_pool_slots.specs.Account.{has_ended};
 
-use crate::kinds::{Look, Return, Steal};
-use crate::slots::{SessionSlots, SlotSeat};
-use crate::words::word_after_slice;
+use crate::slots::{Look, Return, SessionSlots, SlotSeat, Steal, word_after_slice};
 use crate::{READY, SLOTS, WITH_WORKER};
 
 /// What a worker's slice of a session came to.

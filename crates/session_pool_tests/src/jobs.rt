@@ -1,10 +1,10 @@
 //! Numbers that are put, taken and stolen.
 
-ghost use Rattle.session_pool_jobs.specs.Seats.{IsSeatOf, workers_of};
+ghost use Rattle.session_pool.specs.JobSeats.{IsSeatOf, workers_of};
 ghost use Rattle.std.specs.Prelude.{◌<◌, All};
 
 use crate::same::same;
-use session_pool_jobs::{JobSeat, Jobs, MOST_KEPT};
+use session_pool::{JobSeat, Jobs, MOST_KEPT};
 use std::alloc::{AllocError, Global};
 use std::process::Abort;
 use std::test::Fail;

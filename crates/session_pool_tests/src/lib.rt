@@ -1,7 +1,6 @@
 //! Tests and bench; run by `rt ci`.
 //!
-//! Tests of `session_pool`, `session_pool_jobs` and `program_cache`, in one crate over all three, so that each library
-//! is proved once.
+//! Tests of `session_pool` and `program_cache`, in one crate over both, so that each library is proved once.
 #![tactic(auto)]
 
 #[cfg(test)]

@@ -2,7 +2,7 @@
 
 ghost use Rattle.std.specs.Prelude.{◌≤◌, All, IfSome};
 ghost use Rattle.session_pool.specs.declared.limits.TheConstants.{MOST_CLIENTS};
-ghost use Rattle.session_pool_jobs.specs.declared.limits.TheConstants.{MOST_WORKERS};
+ghost use Rattle.session_pool.specs.declared.limits.TheConstants.{MOST_WORKERS};
 ghost use Rattle.session_pool.specs.Seats.{IsNewClient, IsNewWorker, Rests, RestsWorker};
 
 use program_cache::ProgramCache;

@@ -10,7 +10,7 @@ use denote.RawPtr.{Ptr, block_ptr, null_ptr, lies_at}
 use Rattle.std.specs.Prelude.{Option, Some, None}
 use Rattle.std.proofs.Crossing.{crosses, frees}
 use Rattle.std.proofs.Handle.{handle}
-use Rattle.machine_stepper.proofs.Crossing.{machine-send}
+use Rattle.machine.proofs.MachineCrossing.{machine-send}
 use Rattle.machine.proofs.Crossing.{pair-send}
 use Rattle.embedding.specs.contracts.owning.OwningTranscoder as transcoder
 use Rattle.transcoder_handle.specs.Held.{held_owns}

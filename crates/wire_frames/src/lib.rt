@@ -4,12 +4,10 @@
 //! registry: a magic byte, the id of the schema that wrote the payload, the payload.
 #![tactic(auto)]
 
-mod envelope;
 mod laws;
 mod message;
-mod moving;
 
-pub use envelope::{EnvelopeError, PREFIX_LENGTH, open_envelope, put_envelope};
 pub use laws::envelopes_have_one_id_and_payload;
-pub use message::Message;
-pub use moving::{read_more, write_more};
+pub use message::{
+    EnvelopeError, Message, PREFIX_LENGTH, open_envelope, put_envelope, read_more, write_more,
+};

@@ -1,17 +1,16 @@
-//! A message that is received in parts.
+//! Messages that are received in parts; their envelopes; one read, and one write.
 
-ghost use Rattle.std.specs.Prelude.{◌≡◌, ◌<◌, ◌≤◌, ◌++◌, List, ℕ, [], IfErr, IfOk, OnErr, OnOk, length, take};
-ghost use Rattle.std.specs.Io.KnownBytes.{Keeps};
+ghost use Rattle.std.specs.Prelude.{◌++◌, ◌+◌, ◌<◌, ◌≡◌, ◌≤◌, IfErr, IfOk, List, OnErr, OnOk, [], drop, length, take, vec_len, ℕ};
+ghost use Rattle.std.specs.Io.KnownBytes.{Keeps, WriteAppends};
 ghost use Rattle.wire_frames.specs.Moving.{Receives};
 ghost use Rattle.spec_registry.specs.declared.envelope.TheConstants.{PREFIX_LENGTH};
-ghost use Rattle.spec_registry.specs.Envelope.{IsNoMessage, envelope};
+ghost use Rattle.spec_registry.specs.Envelope.{IsNoMessage, envelope, prefix};
 ghost use Rattle.wire_frames.specs.Envelope.{IsWriterOf};
 
-use crate::envelope::{EnvelopeError, PREFIX_LENGTH, open_envelope};
-use crate::read_more;
+pub use spec_registry::{EnvelopeError, PREFIX_LENGTH};
 use std::alloc::{AllocError, Global};
 use std::io;
-use std::io::Read;
+use std::io::{Read, Write};
 use std::marker::Model;
 
 /// Bytes that may be a message. What would be its envelope is kept apart from what would be its payload, which can so
@@ -104,4 +103,76 @@ impl Message {
         let (id, _) = open_envelope(&self.envelope)?;
         Ok((id, self.payload))
     }
+}
+
+/// The byte that a message begins with.
+const MAGIC_BYTE: u8 = 0;
+
+/// Opens a message, and returns the id of the writer's schema, and the part of the message that is its payload
+/// (Confluent wire format). The error says why the bytes are no message.
+pub fn open_envelope(message: &[u8]) -> Result<(u32, &[u8]), EnvelopeError>
+    ensures opened { IfOk result (λ opened. message.now ≡ envelope opened.0 opened.1.now) }
+    ensures refused { IfErr result (IsNoMessage message.now) }
+{
+    if message.len() < PREFIX_LENGTH {
+        return Err(EnvelopeError::ShortEnvelope);
+    }
+    if message[0] != MAGIC_BYTE {
+        return Err(EnvelopeError::BadMagic);
+    }
+    let id = u32::from_be_bytes([message[1], message[2], message[3], message[4]]);
+    Ok((id, &message[PREFIX_LENGTH..]))
+}
+
+/// Appends what comes before a payload that the schema of this id writes. It is an `Err` where memory runs out; then
+/// the output is as it was.
+pub fn put_envelope(id: u32, out: &mut Vec<u8>) -> Result<(), AllocError>
+    ensures put { OnOk result (out.new.items ≡ out.old.items ++ prefix id) }
+    ensures refused { OnErr result (out.new.items ≡ out.old.items) }
+{
+    let [first, second, third, fourth] = id.to_be_bytes();
+    out.extend_from_slice(&[MAGIC_BYTE, first, second, third, fourth])
+}
+
+/// The number of bytes that a read asks for at least, where as many are wanted.
+const LEAST_STEP: usize = 4_096;
+
+/// The number of bytes that a read asks for at most.
+const MOST_STEP: usize = 262_144;
+
+/// Reads once, appends what came, and returns the number of bytes, 0 only where the reader has ended.
+///
+/// It asks for as many bytes as have come, so that memory at most doubles, and for no more than `wanted` in all. The
+/// errors are the reader's, and `OutOfMemory` where memory runs out; then the bytes are as they were.
+pub fn read_more<R: Read>(reader: &mut R, bytes: &mut Vec<u8>, wanted: usize) -> io::Result<usize>
+    requires { vec_len bytes.old < wanted }
+    ensures received { IfOk result
+        (Receives (R.remaining reader.old) (R.remaining reader.new) bytes.old.items bytes.new.items) }
+    ensures refused { OnErr result (bytes.new.items ≡ bytes.old.items) }
+    ensures kept { OnErr result (Keeps (R.remaining reader.old) (R.remaining reader.new)) }
+    ensures bound { vec_len bytes.new ≤ wanted }
+{
+    let had = bytes.len();
+    let step = had.clamp(LEAST_STEP, MOST_STEP).min(wanted - had);
+    bytes.resize(had + step, 0)?;
+    match reader.read(&mut bytes[had..]) {
+        Ok(count) => {
+            bytes.truncate(had + count);
+            Ok(count)
+        }
+        Err(error) => {
+            bytes.truncate(had);
+            Err(error)
+        }
+    }
+}
+
+/// Writes once what follows the first `sent` bytes, and returns the number of bytes that the writer took. The errors
+/// are the writer's.
+pub fn write_more<W: Write>(writer: &mut W, bytes: &[u8], sent: usize) -> io::Result<usize>
+    requires { sent ≤ length bytes.now }
+    ensures written { WriteAppends (W.contents writer.old) (W.contents writer.new) result (drop sent bytes.now) }
+    ensures bound { IfOk result (λ n. sent + n ≤ length bytes.now) }
+{
+    writer.write(&bytes[sent..])
 }

@@ -1,7 +1,6 @@
 //! A peer that sends what comes in parts, and takes what is written a few bytes at a time.
 
-use gateway_exchange::Progress;
-use gateway_requests::{Answer, AnswerBytes, Routes};
+use gateway_requests::{Answer, AnswerBytes, Progress, Routes};
 use persistent_exchange::{Course, RequestStream, WholeRequest};
 use std::alloc::{AllocError, Global};
 use std::io;

@@ -2,7 +2,7 @@
 use Rattle.std.proofs.Common.{◌∙◌, ap, subst, sym}
 use Rattle.std.specs.List.{concat}
 use Rattle.spec_machine.specs.State.{State}
-use Rattle.machine_stepper.specs.Running.{Running}
+use Rattle.machine.specs.Running.{Running}
 use Rattle.spec_lines.specs.Running.{StopsIn}
 use Rattle.commands.proofs.PiecesLeft.{large_written, run_written}
 use Rattle.commands.proofs.running.push_run_answer.Goals as goal

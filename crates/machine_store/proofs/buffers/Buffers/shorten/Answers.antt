@@ -1,6 +1,6 @@
 use Rattle.std.proofs.Common.{◌∙◌, List, ap, sym}
 use Rattle.std.proofs.lemmas.List.{take-map}
-use Rattle.machine_store.specs.declared.segment.Segment.{Segment}
+use Rattle.machine_store.specs.declared.ropes.Segment.{Segment}
 use Rattle.machine_store.specs.Buffers.{laid_of, segments_of, with_fewer}
 use Rattle.machine_store.proofs.Placing.{fewer-laid}
 use Rattle.machine_store.proofs.buffers.Buffers.shorten.Goals as goal

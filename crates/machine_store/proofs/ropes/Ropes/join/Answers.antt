@@ -1,5 +1,5 @@
 use Rattle.std.proofs.Common.{◌∙◌, [], ◌∷◌, ◌++◌, List, ap, arith, sym}
-use Rattle.machine_store.specs.declared.segment.Segment.{Segment}
+use Rattle.machine_store.specs.declared.ropes.Segment.{Segment}
 use Rattle.machine_store.specs.Ropes.{counted, rope_at}
 use Rattle.machine_store.proofs.Roping.{AreCounted-push, AreJoints-push, counted_joined, how_many, pushed}
 use Rattle.machine_store.proofs.ropes.Ropes.join.Goals as goal

@@ -1,7 +1,7 @@
 use Rattle.std.proofs.Common.{◌≤◌, ◌∙◌, ◌∷◌, List, ap, arith, length, reverse, slice_get, sym}
 use Rattle.std.proofs.lemmas.Option.{slice_get_past}
 use Rattle.spec_avro.specs.declared.limits.TheConstants.{MOST_OUTPUT}
-use Rattle.machine_store.specs.declared.segment.Segment.{Segment}
+use Rattle.machine_store.specs.declared.ropes.Segment.{Segment}
 use Rattle.machine_store.specs.Buffers.{segments_at}
 use Rattle.machine_store.proofs.Viewing.{buffer-shown, few-segments, is-placed, none-named, none-placed, segments-named}
 use Rattle.machine_store.proofs.store.Store.segment.Goals as goal

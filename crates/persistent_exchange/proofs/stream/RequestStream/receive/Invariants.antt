@@ -1,6 +1,6 @@
 -- What was received so far follows what had come, and nothing was sent.
 use Rattle.std.proofs.Common.{◌≡◌}
-use Rattle.gateway_exchange.specs.Exchange.{Gains}
+use Rattle.gateway_requests.specs.Exchange.{Gains}
 use Rattle.spec_service.specs.Persistent.{received}
 use Rattle.persistent_exchange.specs.Persistent.{sent}
 use Rattle.persistent_exchange.proofs.stream.RequestStream.receive.Given as goal

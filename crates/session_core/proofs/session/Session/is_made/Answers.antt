@@ -1,5 +1,5 @@
 use Rattle.std.proofs.Common.{◌<◌, ◌^◌, ap, subst, arith}
-use Rattle.machine_stepper.specs.Running.{Running}
+use Rattle.machine.specs.Running.{Running}
 use Rattle.session_core.specs.SessionKept.{IsMade}
 use Rattle.session_core.proofs.Made.{made}
 use Rattle.session_core.proofs.session.Session.is_made.Goals as goal

@@ -1,6 +1,6 @@
 use Rattle.session_pool.specs.Order.{KeepsFurther}
 use Rattle.session_pool.specs.Searching.{LooksOn}
-use Rattle.session_pool_jobs.specs.Seats.{IsSeatOf}
+use Rattle.session_pool.specs.JobSeats.{IsSeatOf}
 use Rattle.session_pool_slots.specs.Seats.{IsSeatOf as IsSlotSeatOf}
 use Rattle.session_pool.proofs.pool.SessionPool.keep_further.Given as goal
 

@@ -1,5 +1,5 @@
 use Rattle.std.proofs.Common.{◌≡◌, ℕ, None, Some, refl, subst, arith}
-use Rattle.session_pool_jobs.specs.Seats.{workers_of}
+use Rattle.session_pool.specs.JobSeats.{workers_of}
 use Rattle.session_pool.specs.Order.{StealsMiss}
 use Rattle.session_pool.proofs.Orders.{looks_nowhere, steals_first, steals_itself, steals_lead, steals_more}
 use Rattle.session_pool.proofs.Searches.{takes_later}

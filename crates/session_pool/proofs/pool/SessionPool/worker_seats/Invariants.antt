@@ -1,6 +1,6 @@
 use Rattle.std.proofs.Common.{◌≡◌, ◌+◌, vec_len, length, All}
-use Rattle.session_pool_jobs.specs.Calls.{IsEmpty}
-use Rattle.session_pool_jobs.specs.Seats.{IsSeatOf}
+use Rattle.session_pool.specs.Calls.{IsEmpty}
+use Rattle.session_pool.specs.JobSeats.{IsSeatOf}
 use Rattle.session_pool_slots.specs.Seats as slots
 use Rattle.session_pool.specs.Seats.{IsNewWorker}
 use Rattle.session_pool.proofs.pool.SessionPool.worker_seats.Given as goal

@@ -1,6 +1,0 @@
--- What was written so far are the next bytes of the answer.
-use Rattle.gateway_exchange.specs.Exchange.{Sends}
-use Rattle.gateway_exchange.proofs.turns.send.Given as goal
-
-abbrev pub invariant-loop : goal.invariant-loop
-invariant-loop g l = Sends (g.S.Write.contents l.fn.stream) (g.S.Write.contents l.stream) l.fn.sending l.sending

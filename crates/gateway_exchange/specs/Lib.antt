@@ -1,4 +1,0 @@
-pub mod Exchange
-pub mod Reception
-pub mod Stages
-pub mod Laws

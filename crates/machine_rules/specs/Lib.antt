@@ -1,4 +1,0 @@
-pub mod Ending
-pub mod Chunks
-pub mod Text
-pub mod Laws

@@ -1,8 +1,0 @@
-use Rattle.machine_stepper.specs.Running.{IsOn, IsUnder}
-use Rattle.machine_stepper_tests.proofs.arena_tests.takes_rows.Given as goal
-
-abbrev pub invariant-rows : goal.invariant-rows
-invariant-rows l = record {
-  under : IsUnder l.program l.machine;
-  on : IsOn l.input l.machine;
-}

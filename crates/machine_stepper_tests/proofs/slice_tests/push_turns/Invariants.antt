@@ -1,8 +1,0 @@
-use Rattle.machine_stepper.specs.Running.{IsOn, IsUnder}
-use Rattle.machine_stepper_tests.proofs.slice_tests.push_turns.Given as goal
-
-abbrev pub invariant-each : goal.invariant-each
-invariant-each l = record {
-  under : IsUnder l.program l.machine;
-  on : IsOn l.input l.machine;
-}

@@ -1,5 +1,0 @@
-mod Balance
-mod Places
-mod Making
-pub mod Steals
-pub mod Crossing

@@ -1,5 +1,0 @@
-use Rattle.session_pool_jobs.proofs.Balance.{starts}
-use Rattle.session_pool_jobs.proofs.seat.JobSeat.alone.Goals as goal
-
-pub fifo_as-requires : goal.fifo_as-requires
-fifo_as-requires c = starts
