@@ -6,7 +6,6 @@ ghost use Rattle.spec_lines.specs.Output.{IsDebug};
 ghost use Rattle.spec_lines.specs.Refusal.{text_of};
 ghost use Rattle.spec_lines.specs.declared.status.Status.TheVariants.{Answered, Refused};
 
-use crate::DebugError;
 use crate::refusal::Refusal;
 use avro_types::Nodes;
 use std::alloc::Global;
@@ -23,11 +22,5 @@ pub(crate) fn debug(
     ensures err { IfErr result (λ e. e ≢ Refusal.NoMemory →
         IsDebug writer.now reader.now (lines later.now) (text_of e ++ 10 ∷ []) Refused) }
 {
-    match crate::debug(alloc, writer, reader, later) {
-        Ok(output) => Ok(output),
-        Err(DebugError::ProgramTooLarge) => Err(Refusal::ProgramTooLarge),
-        Err(DebugError::BadHex) => Err(Refusal::BadHex),
-        Err(DebugError::TooLarge) => Err(Refusal::TooLarge),
-        Err(DebugError::NoMemory) => Err(Refusal::NoMemory),
-    }
+    crate::debug(alloc, writer, reader, later)
 }

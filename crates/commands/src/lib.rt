@@ -25,5 +25,5 @@ pub use laws::input_has_one_output;
 pub use questions::{Question, answer};
 pub use replaying::replay;
 pub use schema_report::{Form, Level, Verdict};
-pub use session_debugging::{DebugError, debug};
+pub use session_debugging::debug;
 pub use spec_lines::Status;

@@ -6,13 +6,13 @@ ghost use Rattle.spec_machine.specs.Program.{Program as Parted};
 ghost use Rattle.spec_lines.specs.Debugging.{AnswersCommand, IsDebugged, Obeys, debugged, given, within_limit};
 ghost use Rattle.commands.specs.Folding.{Grows};
 
+use crate::refusal::Refusal;
 use crate::telling::{push_code, push_refusal, push_state};
 use avro_types::Nodes;
 use command_io::{DebugLine, payload_of, read_debug_line, split_line, split_line_or_empty};
 use machine::PlannedProgram;
 use program_compiler::{CompileError, compile};
 use session_core::{PieceRefusal, Session};
-pub use spec_lines::DebugError;
 use std::alloc::{AllocError, Global};
 
 /// Sets a breakpoint, and appends why it was not set, where it was refused.
@@ -84,16 +84,16 @@ fn given<'p>(
     alloc: Global,
     program: &'p PlannedProgram,
     payload: &[u8],
-) -> Result<Session<'p>, DebugError>
+) -> Result<Session<'p>, Refusal>
     ensures ok { IfOk result (λ session. (session ≡ given program.now payload.now)
         × (within_limit program.now payload.now ≡ Ok (program.now, payload.now))) }
-    ensures err { IfErr result (λ e. e ≢ DebugError.NoMemory → within_limit program.now payload.now ≡ Err e) }
+    ensures err { IfErr result (λ e. e ≢ Refusal.NoMemory → within_limit program.now payload.now ≡ Err e) }
 {
     let mut session = Session::begin(alloc, program);
     match session.piece(payload) {
         Ok(()) => {}
-        Err(PieceRefusal::TooLarge) => return Err(DebugError::TooLarge),
-        Err(PieceRefusal::NoMemory) => return Err(DebugError::NoMemory),
+        Err(PieceRefusal::TooLarge) => return Err(Refusal::TooLarge),
+        Err(PieceRefusal::NoMemory) => return Err(Refusal::NoMemory),
         Err(PieceRefusal::Ended) => unreachable!(),
     }
     session.finish();
@@ -106,10 +106,10 @@ fn answers(
     program: &PlannedProgram,
     payload: &[u8],
     commands: &[u8],
-) -> Result<String, DebugError>
+) -> Result<String, Refusal>
     ensures ok { IfOk result (λ output. IsDebugged program.now payload.now (lines commands.now) (string_bytes output)
         × (within_limit program.now payload.now ≡ Ok (program.now, payload.now))) }
-    ensures err { IfErr result (λ e. e ≢ DebugError.NoMemory → within_limit program.now payload.now ≡ Err e) }
+    ensures err { IfErr result (λ e. e ≢ Refusal.NoMemory → within_limit program.now payload.now ≡ Err e) }
 {
     let mut session = given(alloc, program, payload)?;
     let mut output = String::new(alloc);
@@ -123,26 +123,21 @@ fn answers(
 
 /// Returns the answers to the commands of a debugger, a line each, which follow the line of a payload. The payload is
 /// there whole before the first command.
-pub fn debug(
-    alloc: Global,
-    writer: &Nodes,
-    reader: &Nodes,
-    input: &[u8],
-) -> Result<String, DebugError>
+pub fn debug(alloc: Global, writer: &Nodes, reader: &Nodes, input: &[u8]) -> Result<String, Refusal>
     ensures ok { IfOk result (λ output. (P : Parted) × (payload : List ℕ)
         × (debugged writer.now reader.now (line_at (lines input.now) 0) ≡ Ok (P, payload))
         × IsDebugged P payload (drop 1 (lines input.now)) (string_bytes output)) }
-    ensures err { IfErr result (λ e. e ≢ DebugError.NoMemory →
+    ensures err { IfErr result (λ e. e ≢ Refusal.NoMemory →
         debugged writer.now reader.now (line_at (lines input.now) 0) ≡ Err e) }
 {
     let (line, commands) = split_line_or_empty(input);
     let program = match compile(alloc, writer, reader) {
         Ok(program) => PlannedProgram::new(alloc, program),
-        Err(CompileError::ProgramTooLarge) => return Err(DebugError::ProgramTooLarge),
-        Err(CompileError::NoMemory) => return Err(DebugError::NoMemory),
+        Err(CompileError::ProgramTooLarge) => return Err(Refusal::ProgramTooLarge),
+        Err(CompileError::NoMemory) => return Err(Refusal::NoMemory),
     };
     match payload_of(alloc, line)? {
         Some(payload) => answers(alloc, &program, &payload, commands),
-        None => Err(DebugError::BadHex),
+        None => Err(Refusal::BadHex),
     }
 }

@@ -73,7 +73,10 @@ pub(crate) fn outcome(
 pub(crate) fn transcoded(alloc: Global, pair: &Pair, payload: &[u8]) -> Result<Outcome, PairError> {
     let (w, r) = (pair.writer.nodes(), pair.reader.nodes());
     match transcode(alloc, w, r, payload) {
-        Err(PairError::NoMemory) => transcode(alloc, w, r, payload),
+        Err(
+            PairError::NoProgram(CompileError::NoMemory)
+            | PairError::NoOutcome(TranscodeError::NoMemory),
+        ) => transcode(alloc, w, r, payload),
         answer => answer,
     }
 }

@@ -1,7 +1,8 @@
 //! Answers in words, as the rows have them.
 
 use crate::again::{Pair, transcoded};
-use machine::{EndView, Outcome, PairError};
+use machine::{EndView, Outcome, PairError, TranscodeError};
+use program_compiler::CompileError;
 use std::alloc::{AllocError, Global};
 
 /// Returns an output in words.
@@ -47,8 +48,15 @@ pub(crate) fn end_words(alloc: Global, end: Option<EndView<'_>>) -> Result<Strin
 pub(crate) fn pair_words(alloc: Global, pair: &Pair, payload: &[u8]) -> Result<String, AllocError> {
     match transcoded(alloc, pair, payload) {
         Ok(outcome) => outcome_words(alloc, &outcome),
-        Err(PairError::ProgramTooLarge) => String::from_str(alloc, "program too large"),
-        Err(PairError::TooLarge) => String::from_str(alloc, "payload too large"),
-        Err(PairError::NoMemory) => Err(AllocError),
+        Err(PairError::NoProgram(CompileError::ProgramTooLarge)) => {
+            String::from_str(alloc, "program too large")
+        }
+        Err(PairError::NoOutcome(TranscodeError::TooLarge)) => {
+            String::from_str(alloc, "payload too large")
+        }
+        Err(
+            PairError::NoProgram(CompileError::NoMemory)
+            | PairError::NoOutcome(TranscodeError::NoMemory),
+        ) => Err(AllocError),
     }
 }

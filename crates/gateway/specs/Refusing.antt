@@ -11,9 +11,8 @@ use Rattle.gateway.specs.Stopping.{LetsGo}
 
 -- a refusal of the pool to open a session has the pool's reason; of the other two nothing is said here
 abbrev pub IsWhyRefused : TranscodeFault → Shown → Shown → ClientSeat → ClientSeat → Type 0
-IsWhyRefused faults.ProgramTooLarge writer reader old new =
-    IsWhyNotOpened opening.ProgramTooLarge writer.schema reader.schema old new
-IsWhyRefused faults.Clash writer reader old new = IsWhyNotOpened opening.Clash writer.schema reader.schema old new
+IsWhyRefused (faults.NoProgram why) writer reader old new =
+    IsWhyNotOpened (opening.NoProgram why) writer.schema reader.schema old new
 IsWhyRefused faults.Full writer reader old new = IsWhyNotOpened opening.Full writer.schema reader.schema old new
 IsWhyRefused faults.NotFinished writer reader old new = ⊤
 IsWhyRefused faults.NoMemory writer reader old new = ⊤
@@ -26,7 +25,5 @@ pub record Refuses (old new : ClientSeat) (writer reader : Shown) (fault : Trans
 
 -- each refusal of the pool becomes the fault of the same name
 abbrev pub fault_of : OpenError → TranscodeFault
-fault_of opening.ProgramTooLarge = faults.ProgramTooLarge
-fault_of opening.Clash = faults.Clash
+fault_of (opening.NoProgram why) = faults.NoProgram why
 fault_of opening.Full = faults.Full
-fault_of opening.NoMemory = faults.NoMemory

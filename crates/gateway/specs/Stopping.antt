@@ -1,7 +1,7 @@
 -- Why a session that was opened comes to no outcome, and what is then left of it. All of this is this project's own.
 use Rattle.std.specs.Prelude.{◌⊎◌, ℕ, ◌+◌, ⊤}
 use Rattle.spec_service.specs.declared.transcode_fault.TranscodeFault.{TranscodeFault}
-use Rattle.spec_service.specs.declared.transcode_fault.TranscodeFault.TheVariants.{ProgramTooLarge, Clash, Full, NotFinished, NoMemory}
+use Rattle.spec_service.specs.declared.transcode_fault.TranscodeFault.TheVariants.{NoProgram, Full, NotFinished, NoMemory}
 use Rattle.session_pool.specs.declared.pool.ClientSeat.{ClientSeat}
 use Rattle.spec_sessions.specs.Pass.{Pass}
 use Rattle.session_pool.specs.Seats.{Finds, IsGone, KeepsAll, KeepsOthers}
@@ -12,8 +12,7 @@ use Rattle.gateway.specs.declared.pooled.TheConstants.{MOST_ABANDONS}
 abbrev pub IsWhyStopped : Type 0 → TranscodeFault → Type 0
 IsWhyStopped said_no NotFinished = said_no
 IsWhyStopped said_no NoMemory = ⊤
-IsWhyStopped said_no ProgramTooLarge = ⊥
-IsWhyStopped said_no Clash = ⊥
+IsWhyStopped said_no (NoProgram why) = ⊥
 IsWhyStopped said_no Full = ⊥
 
 -- n calls, one after another, found that a worker had the session of the pass

@@ -25,10 +25,8 @@ fn fault_of(error: OpenError) -> TranscodeFault
     ensures { result ≡ fault_of error }
 {
     match error {
-        OpenError::ProgramTooLarge => TranscodeFault::ProgramTooLarge,
-        OpenError::Clash => TranscodeFault::Clash,
+        OpenError::NoProgram(why) => TranscodeFault::NoProgram(why),
         OpenError::Full => TranscodeFault::Full,
-        OpenError::NoMemory => TranscodeFault::NoMemory,
     }
 }
 

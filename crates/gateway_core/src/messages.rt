@@ -22,6 +22,7 @@ use gateway_requests::{Answer, Fault};
 use schema_registry::{Receipt, SharedRegistry};
 use spec_service::Evidence;
 pub use spec_service::NamedSchema;
+use spec_sessions::PublishError;
 use std::marker::Model;
 use std::sync::Wait;
 use wire_frames::Message;
@@ -42,8 +43,9 @@ fn fault_of_transcoding(fault: TranscodeFault) -> Fault
     ensures { result ≡ fault_of_transcoding fault }
 {
     match fault {
-        TranscodeFault::ProgramTooLarge => Fault::ProgramTooLarge,
-        TranscodeFault::Clash => Fault::Clash,
+        TranscodeFault::NoProgram(PublishError::ProgramTooLarge) => Fault::ProgramTooLarge,
+        TranscodeFault::NoProgram(PublishError::Clash) => Fault::Clash,
+        TranscodeFault::NoProgram(PublishError::NoMemory) => Fault::NoMemory,
         TranscodeFault::Full => Fault::Full,
         TranscodeFault::NotFinished => Fault::NotFinished,
         TranscodeFault::NoMemory => Fault::NoMemory,

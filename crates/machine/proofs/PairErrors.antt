@@ -7,14 +7,15 @@ use Rattle.spec_avro.specs.Transcoding.{Transcodes}
 use Rattle.spec_avro.specs.declared.transcode_error.TranscodeError.{TranscodeError}
 use Rattle.spec_avro.specs.declared.transcode_error.TranscodeError.TheVariants as refusals
 use Rattle.machine.specs.Pair.{Pair}
-use Rattle.machine.specs.Transcoding.{Makes, TranscodesPair, of_payload}
+use Rattle.machine.specs.declared.transcoding.PairError.TheVariants.{NoOutcome}
+use Rattle.machine.specs.Transcoding.{Makes, TranscodesPair}
 
 module _ (W R : List Node) (payload : List ℕ) (pair : Pair) (made : Makes W R (Ok pair)) where
-  refused : (e : TranscodeError) → Transcodes W R payload (Err e) → TranscodesPair W R payload (Err (of_payload e))
+  refused : (e : TranscodeError) → Transcodes W R payload (Err e) → TranscodesPair W R payload (Err (NoOutcome e))
   refused refusals.TooLarge t = (made.0, t)
   refused refusals.NoMemory t = tt
 
-  pub payload_refused : (e : TranscodeError) → Transcodes pair.writer pair.reader payload (Err e) → TranscodesPair W R payload (Err (of_payload e))
+  pub payload_refused : (e : TranscodeError) → Transcodes pair.writer pair.reader payload (Err e) → TranscodesPair W R payload (Err (NoOutcome e))
   payload_refused e t = refused e (subst (λ (x : Pair). Transcodes x.writer x.reader payload (Err e)) made.1 t)
 
   pub outcome_told : (o : rust.Outcome) → Transcodes pair.writer pair.reader payload (Ok o) → TranscodesPair W R payload (Ok o)

@@ -2,7 +2,8 @@
 
 ghost use Rattle.std.specs.Prelude.{◌≡◌, List, Ok};
 ghost use Rattle.spec_avro.specs.Node.{Node};
-ghost use Rattle.machine.specs.Transcoding.{Makes, TranscodesPair, of_compiling, of_payload};
+ghost use Rattle.machine.specs.Transcoding.{Makes, TranscodesPair};
+ghost use Rattle.machine.specs.declared.transcoding.PairError.TheVariants.{NoOutcome, NoProgram};
 
 use crate::transcoder::Transcoder;
 use avro_bytes::Outcome;
@@ -15,33 +16,27 @@ use thiserror::Error;
 /// Why a pair of schemas and a payload have no outcome, the first reason.
 #[derive(Clone, Copy, Debug, PartialEq, Eq, Error)]
 pub enum PairError {
-    #[error("the program passes a limit")]
-    ProgramTooLarge,
-    #[error("the payload passes its limit")]
-    TooLarge,
-    #[error("out of memory")]
-    NoMemory,
+    /// The pair has no program.
+    #[error("{0}")]
+    NoProgram(CompileError),
+    /// The payload has no outcome.
+    #[error("{0}")]
+    NoOutcome(TranscodeError),
 }
 
 impl From<CompileError> for PairError {
-    ghost from_gives = { λ error e. e ≡ of_compiling error };
+    ghost from_gives = { λ error e. e ≡ NoProgram error };
 
     fn from(error: CompileError) -> PairError {
-        match error {
-            CompileError::ProgramTooLarge => PairError::ProgramTooLarge,
-            CompileError::NoMemory => PairError::NoMemory,
-        }
+        PairError::NoProgram(error)
     }
 }
 
 impl From<TranscodeError> for PairError {
-    ghost from_gives = { λ error e. e ≡ of_payload error };
+    ghost from_gives = { λ error e. e ≡ NoOutcome error };
 
     fn from(error: TranscodeError) -> PairError {
-        match error {
-            TranscodeError::TooLarge => PairError::TooLarge,
-            TranscodeError::NoMemory => PairError::NoMemory,
-        }
+        PairError::NoOutcome(error)
     }
 }
 
@@ -54,8 +49,8 @@ fn next_outcome(transcoder: &mut Transcoder<'_>, payload: &[u8]) -> Result<Outco
 
 /// Returns the outcome of one payload, by the program of its pair of schemas.
 ///
-/// `ProgramTooLarge` where the program would pass a limit; otherwise `TooLarge` where the payload is longer than
-/// `MOST_PAYLOAD`; `NoMemory` where memory runs out.
+/// `NoProgram` with `ProgramTooLarge` where the program would pass a limit; otherwise `NoOutcome` with `TooLarge` where
+/// the payload is longer than `MOST_PAYLOAD`; either with `NoMemory` where memory runs out.
 pub fn transcode(
     alloc: Global,
     writer: &Nodes,

@@ -3,6 +3,7 @@ use Rattle.std.specs.Prelude.{◌≡◌, ◌∷◌, [], Option, Some, None, IfSo
 use Rattle.std.proofs.Common.{Bor}
 use Rattle.spec_schema.specs.Schema.{Declaration}
 use Rattle.spec_machine.specs.Code.{code_of}
+use Rattle.spec_sessions.specs.declared.publish_error.PublishError.TheVariants.{Clash, NoMemory, ProgramTooLarge}
 use Rattle.program_cache.specs.Compiled.{IsOther}
 use Rattle.program_cache.specs.declared.compiled.Compiled.{Compiled}
 use Rattle.program_cache.specs.declared.refusal.PairRefusal.{PairRefusal}
@@ -14,7 +15,7 @@ use Rattle.session_pool_slots.specs.Opening.{FindsNoneFree}
 use Rattle.session_pool_slots.specs.Seats.{knows}
 use Rattle.session_pool.specs.declared.pool.ClientSeat.{ClientSeat}
 use Rattle.session_pool.specs.declared.refusals.OpenError.{OpenError}
-use Rattle.session_pool.specs.declared.refusals.OpenError.TheVariants.{Clash, Full, NoMemory, ProgramTooLarge}
+use Rattle.session_pool.specs.declared.refusals.OpenError.TheVariants.{Full, NoProgram}
 use Rattle.spec_sessions.specs.Pass.{Pass}
 use Rattle.session_pool.specs.Seats.{IsGone, KeepsOthers, left, told}
 
@@ -41,18 +42,12 @@ ShowsOther writer reader seat = MatchOption seat.other_pair ⊥ (λ other.
 -- The two schemas have no program; or all slots were found taken, in order; or another pair has their cell, which the
 -- seat shows, and no slot was looked at; or memory ran out, and none was looked at.
 abbrev pub IsWhyNotOpened : OpenError → Option Declaration → Option Declaration → ClientSeat → ClientSeat → Type 0
-IsWhyNotOpened ProgramTooLarge writer reader old new = IfSome writer (λ w. IfSome reader (λ r.
+IsWhyNotOpened (NoProgram ProgramTooLarge) writer reader old new = IfSome writer (λ w. IfSome reader (λ r.
     code_of w.nodes r.nodes ≡ None))
 IsWhyNotOpened Full writer reader old new = FindsNoneFree (knows old.slots) (knows new.slots)
-IsWhyNotOpened Clash writer reader old new =
+IsWhyNotOpened (NoProgram Clash) writer reader old new =
     (knows new.slots ≡ knows old.slots) × ShowsOther writer reader new
-IsWhyNotOpened NoMemory writer reader old new = knows new.slots ≡ knows old.slots
-
--- the refusal of the cache
-abbrev pub open_error : PairRefusal → OpenError
-open_error pairs.ProgramTooLarge = ProgramTooLarge
-open_error (pairs.Clash pair) = Clash
-open_error pairs.NoMemory = NoMemory
+IsWhyNotOpened (NoProgram NoMemory) writer reader old new = knows new.slots ≡ knows old.slots
 
 -- the other pair that a refusal of the cache shows
 abbrev pub shown_by : PairRefusal → Option (Bor Compiled)

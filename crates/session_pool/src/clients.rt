@@ -23,9 +23,9 @@ impl<'p> SessionPool<'p> {
     /// Opens a session of the program of two receipts' schemas, in the first slot that is found free, and leaves it
     /// ready. Returns the pass for it.
     ///
-    /// `ProgramTooLarge` where the two have no program, then `Clash` where their cell in the cache has what another
-    /// pair was compiled to, which the seat shows from then on, then `Full` where each slot was found taken, in
-    /// order; `NoMemory` where the program found none. It waits for no thread.
+    /// `NoProgram` with `ProgramTooLarge` where the two have no program, then with `Clash` where their cell in the
+    /// cache has what another pair was compiled to, which the seat shows from then on, or with `NoMemory` where the
+    /// program found none; then `Full` where each slot was found taken, in order. It waits for no thread.
     pub fn open(
         &self,
         seat: &mut ClientSeat<'p>,

@@ -20,6 +20,6 @@ pub use jobs::{JobSeat, Jobs, Tally};
 pub use limits::{MOST_CLIENTS, MOST_KEPT, MOST_WORKERS, limits_are_these};
 pub use pool::{ClientSeat, Pass, SessionPool, WorkerSeat};
 pub use refusals::{NotYet, OpenError, PieceError, ReturnedPass, ReturnedPiece};
-pub use session_core::SessionEnd;
+pub use session_core::{PublishError, SessionEnd};
 pub use session_pool_slots::{Busy, SLOTS};
 pub use turning::Turn;

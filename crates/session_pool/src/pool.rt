@@ -41,7 +41,9 @@ pub struct WorkerSeat<'p> {
 }
 
 impl<'p> ClientSeat<'p> {
-    ghost use Rattle.session_pool.specs.Opening.{open_error, shown_by};
+    ghost use Rattle.program_cache.specs.Pairs.{publish_error};
+    ghost use Rattle.session_pool.specs.Opening.{shown_by};
+    ghost use Rattle.session_pool.specs.declared.refusals.OpenError.{OpenError};
 
     /// Returns what the last `open` found in the cell of its pair, which is of another pair, where that returned
     /// `Clash`. `None` after any other result, and before the first.
@@ -53,19 +55,15 @@ impl<'p> ClientSeat<'p> {
 
     /// Keeps the other pair that a refusal of the cache shows, or none. Returns the refusal without it.
     pub(crate) fn note(&mut self, refusal: PairRefusal<'p>) -> OpenError
-        ensures error { result ≡ open_error refusal.entry }
+        ensures error { result ≡ OpenError.NoProgram (publish_error refusal.entry) }
         ensures slots { self.new.slots ≡ self.old.slots }
         ensures other { self.new.other_pair ≡ shown_by refusal.entry }
     {
-        self.other_pair = None;
-        match refusal {
-            PairRefusal::ProgramTooLarge => OpenError::ProgramTooLarge,
-            PairRefusal::Clash(other) => {
-                self.other_pair = Some(other);
-                OpenError::Clash
-            }
-            PairRefusal::NoMemory => OpenError::NoMemory,
-        }
+        self.other_pair = match refusal {
+            PairRefusal::Clash(other) => Some(other),
+            _ => None,
+        };
+        OpenError::NoProgram(refusal.publish_error())
     }
 }
 

@@ -1,20 +1,17 @@
 //! Why a call of the pool was refused.
 
 use crate::pool::Pass;
-use session_core::PieceRefusal;
+use session_core::{PieceRefusal, PublishError};
 use thiserror::Error;
 
 /// Why no session was opened.
 #[derive(Clone, Copy, Debug, PartialEq, Eq, Error)]
 pub enum OpenError {
-    #[error("the program passes a limit")]
-    ProgramTooLarge,
-    #[error("the cell of the program has that of another pair")]
-    Clash,
+    /// The cache has no program for the pair.
+    #[error("no program: {0}")]
+    NoProgram(PublishError),
     #[error("no slot is free")]
     Full,
-    #[error("out of memory")]
-    NoMemory,
 }
 
 /// Why a piece was not taken.

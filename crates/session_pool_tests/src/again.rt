@@ -75,7 +75,7 @@ fn opened_again<'p>(
     ensures pass { IfOk result (IsPassOf seat.new) }
 {
     match pool.open(seat, writer, reader) {
-        Err(OpenError::NoMemory) => pool.open(seat, writer, reader),
+        Err(OpenError::NoProgram(PublishError::NoMemory)) => pool.open(seat, writer, reader),
         answer => answer,
     }
 }

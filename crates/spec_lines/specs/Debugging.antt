@@ -15,8 +15,8 @@ use Rattle.spec_sessions.specs.Session.{Session, begun, has_break}
 use Rattle.spec_sessions.specs.declared.session_refusal.BreakRefusal.{BreakRefusal}
 use Rattle.spec_sessions.specs.declared.session_refusal.BreakRefusal.TheVariants.{NoMemory}
 use Rattle.spec_sessions.specs.declared.session_refusal.ClearRefusal.{ClearRefusal}
-use Rattle.spec_lines.specs.declared.debug_error.DebugError.{DebugError}
-use Rattle.spec_lines.specs.declared.debug_error.DebugError.TheVariants.{BadHex, ProgramTooLarge, TooLarge}
+use Rattle.spec_lines.specs.declared.refusal.Refusal.{Refusal}
+use Rattle.spec_lines.specs.declared.refusal.Refusal.TheVariants.{BadHex, ProgramTooLarge, TooLarge}
 use Rattle.spec_lines.specs.Folding.{AnswersAll}
 use Rattle.spec_lines.specs.Telling.{bad_line, refused_line}
 use Rattle.spec_lines.specs.ShownSessions.{Lists, Shows}
@@ -44,19 +44,19 @@ AnswersCommand line answer old new =
 
 -- ---- what is debugged
 
-abbrev pub within_limit : Program → List ℕ → Result (Program × List ℕ) DebugError
+abbrev pub within_limit : Program → List ℕ → Result (Program × List ℕ) Refusal
 within_limit P payload = if nat_lt MOST_PAYLOAD (length payload) then Err TooLarge else Ok (P, payload)
 
-abbrev pub with_payload : Program → Option (List ℕ) → Result (Program × List ℕ) DebugError
+abbrev pub with_payload : Program → Option (List ℕ) → Result (Program × List ℕ) Refusal
 with_payload P (Some payload) = within_limit P payload
 with_payload P None = Err BadHex
 
-abbrev pub with_line : Option Program → List ℕ → Result (Program × List ℕ) DebugError
+abbrev pub with_line : Option Program → List ℕ → Result (Program × List ℕ) Refusal
 with_line (Some P) line = with_payload P (payload_of line)
 with_line None line = Err ProgramTooLarge
 
 -- a program and its payload: of a pair of schemas, and a line
-abbrev pub debugged : List Node → List Node → List ℕ → Result (Program × List ℕ) DebugError
+abbrev pub debugged : List Node → List Node → List ℕ → Result (Program × List ℕ) Refusal
 debugged W R line = with_line (code_of W R) line
 
 -- the session at the first command

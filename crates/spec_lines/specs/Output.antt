@@ -12,15 +12,13 @@ use Rattle.spec_lines.specs.Lines.{line_at, lines}
 use Rattle.spec_lines.specs.Listed.{listed}
 use Rattle.spec_lines.specs.Debugging.{IsDebugged, debugged}
 use Rattle.spec_lines.specs.Replaying.{IsReplayed}
-use Rattle.spec_lines.specs.declared.debug_error.DebugError.{DebugError}
-use Rattle.spec_lines.specs.declared.debug_error.DebugError.TheVariants as errors
 use Rattle.spec_lines.specs.Refusal.{IsRefused}
 use Rattle.spec_lines.specs.Running.{IsRunLine}
 use Rattle.spec_lines.specs.Schemas.{schemas_of}
 use Rattle.spec_lines.specs.declared.verb.Verb.{Verb}
 use Rattle.spec_lines.specs.declared.verb.Verb.TheVariants.{Compile, Debug, Replay, Run, Transcode}
 use Rattle.spec_lines.specs.declared.refusal.Refusal.{Refusal}
-use Rattle.spec_lines.specs.declared.refusal.Refusal.TheVariants.{BadHex, BadListing, NoMemory, ProgramTooLarge, TooLarge}
+use Rattle.spec_lines.specs.declared.refusal.Refusal.TheVariants.{BadListing, ProgramTooLarge}
 use Rattle.spec_lines.specs.declared.status.Status.{Status}
 use Rattle.spec_lines.specs.declared.status.Status.TheVariants.{Answered}
 
@@ -57,18 +55,12 @@ IsRun steps input output status =
     (λ P. AreAnswers (IsRunLine P steps) parts.1 output × (status ≡ Answered))
     (λ fault. IsRefused (BadListing fault) output status)
 
-abbrev pub refusal_of : DebugError → Refusal
-refusal_of errors.ProgramTooLarge = ProgramTooLarge
-refusal_of errors.BadHex = BadHex
-refusal_of errors.TooLarge = TooLarge
-refusal_of errors.NoMemory = NoMemory
-
 -- that of `debug` for a pair of schemas, a payload's line and the commands after it
 abbrev pub IsDebug : List Node → List Node → List (List ℕ) → List ℕ → Status → Type 0
 IsDebug W R later output status =
     MatchResult (debugged W R (line_at later 0))
     (λ given. IsDebugged given.0 given.1 (drop 1 later) output × (status ≡ Answered))
-    (λ error. IsRefused (refusal_of error) output status)
+    (λ refusal. IsRefused refusal output status)
 
 -- that of `replay`
 abbrev pub IsReplay : List ℕ → List ℕ → Status → Type 0

@@ -3,7 +3,6 @@
 //! What each subcommand prints: definitions in `specs/`, and here the plain types that they speak of.
 #![tactic(auto)]
 
-mod debug_error;
 mod debug_kind;
 mod debug_line;
 mod kind;
@@ -11,7 +10,6 @@ mod refusal;
 mod status;
 mod verb;
 
-pub use debug_error::DebugError;
 pub use debug_kind::DebugKind;
 pub use debug_line::DebugLine;
 pub use kind::Kind;

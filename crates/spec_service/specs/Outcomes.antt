@@ -7,6 +7,7 @@ use Rattle.spec_registry.specs.Envelope.{envelope}
 use Rattle.spec_service.specs.Answer.{Answer, Rewritten, Refused}
 use Rattle.spec_service.specs.declared.fault.Fault.{Fault}
 use Rattle.spec_service.specs.declared.fault.Fault.TheVariants as faults
+use Rattle.spec_sessions.specs.declared.publish_error.PublishError.TheVariants as programs
 use Rattle.spec_service.specs.declared.transcode_fault.TranscodeFault.{TranscodeFault}
 use Rattle.spec_service.specs.declared.transcode_fault.TranscodeFault.TheVariants as transcoding
 
@@ -18,8 +19,9 @@ answer_of_outcome id (Malformed kind at) = Refused (faults.Malformed kind at)
 answer_of_outcome id OutputTooLarge = Refused faults.OutputTooLarge
 
 abbrev pub fault_of_transcoding : TranscodeFault → Fault
-fault_of_transcoding transcoding.ProgramTooLarge = faults.ProgramTooLarge
-fault_of_transcoding transcoding.Clash = faults.Clash
+fault_of_transcoding (transcoding.NoProgram programs.ProgramTooLarge) = faults.ProgramTooLarge
+fault_of_transcoding (transcoding.NoProgram programs.Clash) = faults.Clash
+fault_of_transcoding (transcoding.NoProgram programs.NoMemory) = faults.NoMemory
 fault_of_transcoding transcoding.Full = faults.Full
 fault_of_transcoding transcoding.NotFinished = faults.NotFinished
 fault_of_transcoding transcoding.NoMemory = faults.NoMemory
