@@ -1,7 +1,7 @@
 -- The numbers of pairs of ids. All of this is this project's own.
 use Rattle.std.specs.Prelude.{◌≡◌, ◌<◌, ◌≤◌, ℕ, ◌+◌, ◌*◌, ◌-◌}
 use Rattle.spec_registry.specs.declared.limits.TheConstants.{MOST_SCHEMAS}
-use Rattle.program_cache.specs.declared.cache.Place.{Place}
+use Rattle.program_cache.specs.declared.place.Place.{Place}
 use Rattle.program_cache.specs.declared.compiled.TheConstants.{CELLS}
 
 -- all pairs of the writer with id 1 come first, in the order of the readers' ids

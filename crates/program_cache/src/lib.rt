@@ -5,6 +5,7 @@
 
 mod cache;
 mod compiled;
+mod place;
 mod refusal;
 
 pub use cache::{ProgramCache, pairs_have_their_own_numbers};

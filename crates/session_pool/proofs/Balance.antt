@@ -4,7 +4,7 @@ use mathlib.Core.Option.{some, some-injective, some-ne-none}
 use lib.ListN.{get_elem?}
 use Rattle.crossbeam_deque.specs.Tasks.{Admits, Pushes, Takes}
 use Rattle.crossbeam_deque.proofs.Lists.{at_longer, at_set, at_snoc}
-use Rattle.session_pool.specs.declared.jobs.Tally.{Tally}
+use Rattle.session_pool.specs.declared.seat.Tally.{Tally}
 use Rattle.session_pool.specs.Tallies.{Balances, IsInOrder, IsSubsequence, LeavesInOrder, tally, times, total}
 use Rattle.session_pool.specs.Tallies.IsSubsequence.{none, passed, taken}
 

@@ -4,7 +4,7 @@ use Rattle.std.proofs.Crossing.{crosses}
 use Rattle.atomic_blocks.proofs.rows.shared.Rows.TheSendSync as rows
 use Rattle.atomic_blocks.proofs.rows.shared.Seat.TheSendSync as passes
 use Rattle.session_pool.specs.contracts.jobs.Jobs as jobs
-use Rattle.session_pool.specs.contracts.jobs.JobSeat as seat
+use Rattle.session_pool.specs.contracts.seat.JobSeat as seat
 
 pub jobs-sync : IsSync jobs.the_row
 jobs-sync = search (rows.the_send, rows.the_sync, crosses, sendable) depth 60 fits 20000

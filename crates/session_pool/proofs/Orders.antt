@@ -1,6 +1,6 @@
 -- What the parts of a search, in order, come to together.
 use Rattle.std.proofs.Common.{◌≡◌, ◌≢◌, ◌<◌, ◌+◌, ℕ, Option, Some, None, MatchOption, sym, ◌∙◌, subst}
-use Rattle.session_pool.specs.declared.jobs.JobSeat.{JobSeat}
+use Rattle.session_pool.specs.declared.seat.JobSeat.{JobSeat}
 use Rattle.session_pool.specs.Calls.{Steals}
 use Rattle.session_pool.specs.JobSeats.{IsSeatOf, number_of, workers_of}
 use Rattle.session_pool_slots.specs.declared.slots.SlotSeat.{SlotSeat}

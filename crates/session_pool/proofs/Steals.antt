@@ -1,7 +1,7 @@
 -- What a seat has taken of each deque after several steals, one after another.
 use Rattle.std.proofs.Common.{◌≡◌, ◌==◌, ℕ, List, [], ◌∷◌, ◌++◌, if◌then◌else◌, arith}
 use Rattle.std.proofs.lemmas.Grind.{common_steps}
-use Rattle.session_pool.specs.declared.jobs.JobSeat.{JobSeat}
+use Rattle.session_pool.specs.declared.seat.JobSeat.{JobSeat}
 use Rattle.session_pool.specs.Passes.{listed}
 use Rattle.session_pool.specs.JobSeats.{stolen_by}
 use Rattle.session_pool.specs.Calls.{Steals}

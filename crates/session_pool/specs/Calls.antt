@@ -2,7 +2,7 @@
 use Rattle.std.specs.Prelude.{◌≡◌, ◌≢◌, ◌≤◌, ◌⊎◌, ℕ, ◌+◌, ◌-◌, List, [], ◌∷◌, ◌++◌, All, length, Option, Some, None, slice_get}
 use Rattle.session_pool.specs.declared.jobs.Jobs.{Jobs}
 use Rattle.session_pool.specs.declared.limits.TheConstants.{MOST_KEPT}
-use Rattle.session_pool.specs.declared.jobs.JobSeat.{JobSeat}
+use Rattle.session_pool.specs.declared.seat.JobSeat.{JobSeat}
 use Rattle.session_pool.specs.Passes.{listed}
 use Rattle.session_pool.specs.JobSeats.{IsSeatOf, kept_by, number_of, put_by, stolen_by, taken_by, workers_of}
 

@@ -2,7 +2,7 @@
 use Rattle.std.specs.Prelude.{◌≡◌, ℕ, ◌<◌, vec_len, List, [], Some, slice_get}
 use Rattle.crossbeam_deque.specs.Handles.{stealer_deque, worker_deque, worker_view}
 use Rattle.session_pool.specs.declared.jobs.Jobs.{Jobs}
-use Rattle.session_pool.specs.declared.jobs.JobSeat.{JobSeat}
+use Rattle.session_pool.specs.declared.seat.JobSeat.{JobSeat}
 use Rattle.session_pool.specs.Passes.{ArePassesOf, Thief, taken_by_pass}
 
 -- how many workers there are

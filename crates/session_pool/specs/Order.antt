@@ -3,7 +3,7 @@
 -- that it found, and one of the numbers that it took for each deque: what came first is shown by the seat in between,
 -- to which one part of the search led and from which the next went on.
 use Rattle.std.specs.Prelude.{◌≡◌, ◌≢◌, ◌<◌, ◌≤◌, ◌⊎◌, ℕ, ◌+◌, List, [], ◌∷◌, ◌++◌, Option, Some, None, MatchOption}
-use Rattle.session_pool.specs.declared.jobs.JobSeat.{JobSeat}
+use Rattle.session_pool.specs.declared.seat.JobSeat.{JobSeat}
 use Rattle.session_pool.specs.Calls.{HasNoRoom, Puts, Stays, Steals, Takes}
 use Rattle.session_pool.specs.JobSeats.{number_of, workers_of}
 use Rattle.session_pool_slots.specs.Results.{HasNoted, HasSame, IsUnready, words_of}

@@ -3,8 +3,8 @@ use Rattle.std.specs.Prelude.{◌≡◌, ℕ, List, [], ◌∷◌, Option, Some,
 use Rattle.crossbeam_deque.specs.Handles.{IsPassOf, stealer_deque, view, Pass}
 use Rattle.crossbeam_deque.specs.declared.handles.Stealer.{Stealer}
 use Rattle.std.specs.declared.alloc.Global.{Global}
-use Rattle.session_pool.specs.declared.jobs.Tally.{Tally}
-use Rattle.session_pool.specs.declared.jobs.Balanced.{Balanced}
+use Rattle.session_pool.specs.declared.seat.Tally.{Tally}
+use Rattle.session_pool.specs.declared.seat.Balanced.{Balanced}
 
 -- a deque as others see it
 abbrev pub Thief : Type 0

@@ -2,7 +2,7 @@
 use Rattle.std.specs.Prelude.{◌≡◌, ◌≢◌, ℕ, ◌+◌, ◌==◌, if◌then◌else◌, List, [], ◌∷◌, ◌++◌}
 use mathlib.Core.Option.{some}
 use lib.ListN.{get_elem?}
-use Rattle.session_pool.specs.declared.jobs.Tally.{Tally}
+use Rattle.session_pool.specs.declared.seat.Tally.{Tally}
 
 -- what was put and what was taken
 abbrev pub tally : List ℕ → List ℕ → Tally

@@ -1,6 +1,6 @@
 -- Several steals of one seat, one after another. All of this is this project's own.
 use Rattle.std.specs.Prelude.{ℕ, ◌==◌, if◌then◌else◌, List, [], ◌∷◌, ◌++◌, Option}
-use Rattle.session_pool.specs.declared.jobs.JobSeat.{JobSeat}
+use Rattle.session_pool.specs.declared.seat.JobSeat.{JobSeat}
 use Rattle.session_pool.specs.Passes.{listed}
 use Rattle.session_pool.specs.Calls.{Steals}
 

@@ -2,7 +2,7 @@ use Rattle.std.proofs.Common.{sym, ap, subst, All, List, length, arith}
 use Rattle.std.proofs.lemmas.List.Elements.{All-append}
 use Rattle.session_pool.specs.Calls.{IsEmpty}
 use Rattle.session_pool.specs.JobSeats.{IsSeatOf}
-use Rattle.session_pool.specs.declared.jobs.JobSeat.{JobSeat}
+use Rattle.session_pool.specs.declared.seat.JobSeat.{JobSeat}
 use Rattle.session_pool.specs.Seats.{IsNewWorker}
 use Rattle.session_pool.proofs.Lists.{all_one, all_parts}
 use Rattle.session_pool.proofs.pool.SessionPool.worker_seats.Goals as goal
