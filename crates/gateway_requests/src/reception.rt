@@ -13,7 +13,7 @@ ghost use Rattle.httparse.specs.Grammar.{RequestHead};
 ghost use Rattle.httparse.specs.Spans.{IsRequestAt, IsRequestWithin};
 ghost use Rattle.gateway_requests.specs.Stages.{IsAfterHead, IsBodyStage, Stands, follows};
 
-use gateway_requests::{
+use crate::{
     Action, Chosen, Fault, MOST_FIELDS, MOST_HEAD, Request, Routes, choose, path_of, request_of,
     transcoding_of,
 };

@@ -6,7 +6,7 @@ ghost use Rattle.gateway_requests.specs.Exchange.{Gains, Sends};
 ghost use Rattle.gateway_requests.specs.declared.sending.Progress.TheVariants.{Whole};
 
 use crate::reception::Reception;
-use gateway_requests::{AnswerBytes, Routes};
+use crate::{AnswerBytes, Routes};
 use std::io;
 use std::io::{ErrorKind, Read, Write};
 use std::marker::Model;

@@ -6,6 +6,7 @@ pub mod Outcomes
 pub mod Pairs
 pub mod Passes
 pub mod Refused
+mod Obeyed
 pub mod Searches
 mod Balance
 mod Places

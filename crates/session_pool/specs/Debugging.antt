@@ -67,9 +67,19 @@ Debugs command old pass result new = (before : Session) × (after : Session) × 
 
 -- The word that is left: what lets the session go on leaves it ready, or ended; where a worker had it the word was not
 -- touched; all else leaves the word that it found.
+abbrev pub LeavesDone : DebugCommand → Type 0 → Type 0 → Type 0
+LeavesDone (ask.Clear address) goes_on found = goes_on
+LeavesDone (ask.Step limit) goes_on found = goes_on
+LeavesDone (ask.Go limit) goes_on found = goes_on
+LeavesDone (ask.Set address) goes_on found = found
+LeavesDone ask.Show goes_on found = found
+LeavesDone ask.List goes_on found = found
+
+abbrev pub LeavesBy : DebugCommand → Result DebugReply DebugError → Type 0 → Type 0 → Type 0 → Type 0
+LeavesBy command (Ok reply) goes_on untouched found = LeavesDone command goes_on found
+LeavesBy command (Err Busy) goes_on untouched found = untouched
+LeavesBy command (Err error) goes_on untouched found = found
+
 abbrev pub Leaves : DebugCommand → Result DebugReply DebugError → ClientSeat → Pass → ClientSeat → Type 0
-Leaves (ask.Clear address) (Ok reply) old pass new = LetsGoOn new pass
-Leaves (ask.Step limit) (Ok reply) old pass new = LetsGoOn new pass
-Leaves (ask.Go limit) (Ok reply) old pass new = LetsGoOn new pass
-Leaves command (Err Busy) old pass new = left new pass ≡ left old pass
-Leaves command result old pass new = Finds old pass (left new pass) new
+Leaves command result old pass new =
+    LeavesBy command result (LetsGoOn new pass) (left new pass ≡ left old pass) (Finds old pass (left new pass) new)

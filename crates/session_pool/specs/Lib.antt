@@ -14,3 +14,4 @@ pub mod Passes
 pub mod JobSeats
 pub mod Calls
 pub mod Thefts
+pub mod Obeying

@@ -1,13 +1,18 @@
 //! What a debugger asks of a session.
 
 ghost use Rattle.std.specs.Prelude.{◌≡◌};
+ghost use Rattle.session_pool_slots.specs.Account.{has_ended};
+ghost use Rattle.session_pool_slots.specs.Results.{GaveBack, HasOut};
+ghost use Rattle.session_pool_slots.specs.Words.{IsWordOf};
+ghost use Rattle.session_pool.specs.Obeying.{IsFitBack, IsObeyed, account_by};
 ghost use Rattle.session_pool.specs.Seats.{HandsBackOne};
 
 use crate::debug_error::DebugError;
 use crate::pool::{ClientSeat, Pass, SessionPool};
 use debugger::{list, show};
-use session_core::Act;
-use session_pool_slots::word_after;
+use session_core::{Act, Session};
+use session_pool_slots::{SlotSeat, word_after};
+use std::alloc::Global;
 
 /// What a debugger asks of a session.
 #[derive(Clone, Copy, Debug, PartialEq, Eq)]
@@ -60,10 +65,160 @@ pub fn one_session_is_handed_back()
     ensures { HandsBackOne }
 {}
 
+/// What a command came to on a session that was taken out of its slot.
+#[derive(Drop)]
+struct Obeyed {
+    reply: Result<DebugReply, DebugError>,
+    /// The word with which the session is to be given back.
+    word: u64,
+    /// Whether the client learns of all rows that were taken of the session.
+    tells: bool,
+}
+
+/// Sets the breakpoint at an address. `found` is the word of the session's slot.
+fn set(session: &mut Session<'_>, found: u64, address: u32) -> Obeyed
+    requires { IsWordOf (has_ended session.old) found }
+    ensures { IsObeyed (DebugCommand.Set address) found session.old session.new result }
+{
+    match session.set_break(address) {
+        Ok(()) => Obeyed {
+            reply: Ok(DebugReply::Done),
+            word: found,
+            tells: false,
+        },
+        Err(refusal) => Obeyed {
+            reply: Err(DebugError::of_break(refusal)),
+            word: found,
+            tells: false,
+        },
+    }
+}
+
+/// Clears the breakpoint at an address, and lets the session go on. `found` is the word of the session's slot.
+fn clear(session: &mut Session<'_>, found: u64, address: u32) -> Obeyed
+    requires { IsWordOf (has_ended session.old) found }
+    ensures { IsObeyed (DebugCommand.Clear address) found session.old session.new result }
+{
+    match session.clear_break(address) {
+        Ok(()) => Obeyed {
+            reply: Ok(DebugReply::Done),
+            word: word_after(session),
+            tells: false,
+        },
+        Err(refusal) => Obeyed {
+            reply: Err(DebugError::of_clear(refusal)),
+            word: found,
+            tells: false,
+        },
+    }
+}
+
+/// Takes rows, at most `limit`, whatever breakpoints are set. `found` is read by the clauses alone.
+fn step(session: &mut Session<'_>, found: u64, limit: u64) -> Obeyed
+    ensures { IsObeyed (DebugCommand.Step limit) found session.old session.new result }
+{
+    let rows = session.step(limit);
+    Obeyed {
+        reply: Ok(DebugReply::Rows(rows)),
+        word: word_after(session),
+        tells: true,
+    }
+}
+
+/// Takes rows, at most `limit`, of which the first alone may be at a breakpoint. `found` is read by the clauses alone.
+fn go(session: &mut Session<'_>, found: u64, limit: u64) -> Obeyed
+    ensures { IsObeyed (DebugCommand.Go limit) found session.old session.new result }
+{
+    let rows = session.go(limit);
+    Obeyed {
+        reply: Ok(DebugReply::Rows(rows)),
+        word: word_after(session),
+        tells: true,
+    }
+}
+
+/// Returns the text of a session's state. `found` is the word of the session's slot.
+fn shown(alloc: Global, session: &Session<'_>, found: u64) -> Obeyed
+    requires { IsWordOf (has_ended session.now) found }
+    ensures { IsObeyed DebugCommand.Show found session.now session.now result }
+{
+    match show(alloc, session) {
+        Ok(text) => Obeyed {
+            reply: Ok(DebugReply::Text(text)),
+            word: found,
+            tells: true,
+        },
+        Err(_) => Obeyed {
+            reply: Err(DebugError::NoMemory),
+            word: found,
+            tells: false,
+        },
+    }
+}
+
+/// Returns the listing of a session's program. `found` is the word of the session's slot.
+fn listed(alloc: Global, session: &Session<'_>, found: u64) -> Obeyed
+    requires { IsWordOf (has_ended session.now) found }
+    ensures { IsObeyed DebugCommand.List found session.now session.now result }
+{
+    match list(alloc, session) {
+        Ok(text) => Obeyed {
+            reply: Ok(DebugReply::Text(text)),
+            word: found,
+            tells: false,
+        },
+        Err(_) => Obeyed {
+            reply: Err(DebugError::NoMemory),
+            word: found,
+            tells: false,
+        },
+    }
+}
+
+/// Executes a command on a session that was taken out of its slot, which had the word `found`.
+fn obey(alloc: Global, session: &mut Session<'_>, found: u64, command: DebugCommand) -> Obeyed
+    requires { IsWordOf (has_ended session.old) found }
+    ensures { IsObeyed command found session.old session.new result }
+{
+    match command {
+        DebugCommand::Set(address) => set(session, found, address),
+        DebugCommand::Clear(address) => clear(session, found, address),
+        DebugCommand::Step(limit) => step(session, found, limit),
+        DebugCommand::Go(limit) => go(session, found, limit),
+        DebugCommand::Show => shown(alloc, session, found),
+        DebugCommand::List => listed(alloc, session, found),
+    }
+}
+
 impl<'p> SessionPool<'p> {
+    ghost use Rattle.session_pool_slots.specs.Seats.{HoldsEmpty, IsSeatOf, knows};
+    ghost use Rattle.session_pool_slots.specs.Seats.{Rests as RestsAmongSlots};
     ghost use Rattle.session_pool.specs.Seats.{IsPassOf, KeepsOthers, Rests};
     ghost use Rattle.session_pool.specs.Debugging.{Debugs, Leaves};
     ghost use Rattle.session_pool.specs.declared.debugging.DebugCommand.{DebugCommand};
+
+    /// Puts a session that was taken out of its slot back into it, with this word. Where `tells` is true, the client
+    /// learns how many rows were taken of it in all.
+    fn hand_back(
+        &self,
+        seat: &mut SlotSeat<'p>,
+        slot: u32,
+        session: Session<'p>,
+        word: u64,
+        tells: bool,
+    )
+        requires seat { IsSeatOf self.now.slots seat.old × HoldsEmpty slot seat.old }
+        requires pass { HasOut (knows seat.old) slot (IsFitBack tells session) }
+        requires word { IsWordOf (has_ended session) word }
+        ensures seat { RestsAmongSlots self.now.slots seat.new }
+        ensures gave { GaveBack (account_by tells) (knows seat.old) slot session.entry word (knows seat.new) }
+    {
+        if tells {
+            self.slots.tell_back(seat, slot, session, word);
+        } else {
+            self.slots.give_back(seat, slot, session, word);
+        }
+    }
 
     /// Executes a command of a debugger on a session, and returns its reply.
     ///
@@ -84,172 +239,13 @@ impl<'p> SessionPool<'p> {
         ensures debugs { Debugs command seat.old pass.now result seat.new }
         ensures left { Leaves command result seat.old pass.now seat.new }
     {
-        match command {
-            DebugCommand::Set(address) => self.set(seat, pass, address),
-            DebugCommand::Clear(address) => self.clear(seat, pass, address),
-            DebugCommand::Step(limit) => self.step(seat, pass, limit),
-            DebugCommand::Go(limit) => self.go(seat, pass, limit),
-            DebugCommand::Show => self.show(seat, pass),
-            DebugCommand::List => self.list(seat, pass),
-        }
-    }
-
-    /// Sets the breakpoint at an address.
-    fn set(
-        &self,
-        seat: &mut ClientSeat<'p>,
-        pass: &Pass,
-        address: u32,
-    ) -> Result<DebugReply, DebugError>
-        requires seat { Rests self.now seat.old }
-        requires pass { IsPassOf seat.old pass.now }
-        ensures seat { Rests self.now seat.new }
-        ensures pass { IsPassOf seat.new pass.now }
-        ensures others { KeepsOthers seat.old pass.now seat.new }
-        ensures debugs { Debugs (DebugCommand.Set address) seat.old pass.now result seat.new }
-        ensures left { Leaves (DebugCommand.Set address) result seat.old pass.now seat.new }
-    {
-        let slot = pass.slot();
-        let Ok(taken) = self.slots.take_out(&mut seat.slots, slot) else {
-            return Err(DebugError::Busy);
-        };
-        let found = taken.word;
-        let mut session = taken.session;
-        if let Err(refusal) = session.set_break(address) {
-            self.slots.give_back(&mut seat.slots, slot, session, found);
-            return Err(DebugError::of_break(refusal));
-        }
-        self.slots.give_back(&mut seat.slots, slot, session, found);
-        Ok(DebugReply::Done)
-    }
-
-    /// Clears the breakpoint at an address, and lets the session go on.
-    fn clear(
-        &self,
-        seat: &mut ClientSeat<'p>,
-        pass: &Pass,
-        address: u32,
-    ) -> Result<DebugReply, DebugError>
-        requires seat { Rests self.now seat.old }
-        requires pass { IsPassOf seat.old pass.now }
-        ensures seat { Rests self.now seat.new }
-        ensures pass { IsPassOf seat.new pass.now }
-        ensures others { KeepsOthers seat.old pass.now seat.new }
-        ensures debugs { Debugs (DebugCommand.Clear address) seat.old pass.now result seat.new }
-        ensures left { Leaves (DebugCommand.Clear address) result seat.old pass.now seat.new }
-    {
-        let slot = pass.slot();
-        let Ok(taken) = self.slots.take_out(&mut seat.slots, slot) else {
-            return Err(DebugError::Busy);
-        };
-        let found = taken.word;
-        let mut session = taken.session;
-        if let Err(refusal) = session.clear_break(address) {
-            self.slots.give_back(&mut seat.slots, slot, session, found);
-            return Err(DebugError::of_clear(refusal));
-        }
-        let word = word_after(&session);
-        self.slots.give_back(&mut seat.slots, slot, session, word);
-        Ok(DebugReply::Done)
-    }
-
-    /// Takes rows, at most `limit`, whatever breakpoints are set. Returns how many.
-    fn step(
-        &self,
-        seat: &mut ClientSeat<'p>,
-        pass: &Pass,
-        limit: u64,
-    ) -> Result<DebugReply, DebugError>
-        requires seat { Rests self.now seat.old }
-        requires pass { IsPassOf seat.old pass.now }
-        ensures seat { Rests self.now seat.new }
-        ensures pass { IsPassOf seat.new pass.now }
-        ensures others { KeepsOthers seat.old pass.now seat.new }
-        ensures debugs { Debugs (DebugCommand.Step limit) seat.old pass.now result seat.new }
-        ensures left { Leaves (DebugCommand.Step limit) result seat.old pass.now seat.new }
-    {
         let slot = pass.slot();
         let Ok(taken) = self.slots.take_out(&mut seat.slots, slot) else {
             return Err(DebugError::Busy);
         };
         let mut session = taken.session;
-        let rows = session.step(limit);
-        let word = word_after(&session);
-        self.slots.tell_back(&mut seat.slots, slot, session, word);
-        Ok(DebugReply::Rows(rows))
-    }
-
-    /// Takes rows, at most `limit`, of which the first alone may be at a breakpoint. Returns how many.
-    fn go(
-        &self,
-        seat: &mut ClientSeat<'p>,
-        pass: &Pass,
-        limit: u64,
-    ) -> Result<DebugReply, DebugError>
-        requires seat { Rests self.now seat.old }
-        requires pass { IsPassOf seat.old pass.now }
-        ensures seat { Rests self.now seat.new }
-        ensures pass { IsPassOf seat.new pass.now }
-        ensures others { KeepsOthers seat.old pass.now seat.new }
-        ensures debugs { Debugs (DebugCommand.Go limit) seat.old pass.now result seat.new }
-        ensures left { Leaves (DebugCommand.Go limit) result seat.old pass.now seat.new }
-    {
-        let slot = pass.slot();
-        let Ok(taken) = self.slots.take_out(&mut seat.slots, slot) else {
-            return Err(DebugError::Busy);
-        };
-        let mut session = taken.session;
-        let rows = session.go(limit);
-        let word = word_after(&session);
-        self.slots.tell_back(&mut seat.slots, slot, session, word);
-        Ok(DebugReply::Rows(rows))
-    }
-
-    /// Returns the text of the session's state.
-    fn show(&self, seat: &mut ClientSeat<'p>, pass: &Pass) -> Result<DebugReply, DebugError>
-        requires seat { Rests self.now seat.old }
-        requires pass { IsPassOf seat.old pass.now }
-        ensures seat { Rests self.now seat.new }
-        ensures pass { IsPassOf seat.new pass.now }
-        ensures others { KeepsOthers seat.old pass.now seat.new }
-        ensures debugs { Debugs DebugCommand.Show seat.old pass.now result seat.new }
-        ensures left { Leaves DebugCommand.Show result seat.old pass.now seat.new }
-    {
-        let slot = pass.slot();
-        let Ok(taken) = self.slots.take_out(&mut seat.slots, slot) else {
-            return Err(DebugError::Busy);
-        };
-        let found = taken.word;
-        let session = taken.session;
-        let Ok(text) = show(self.alloc, &session) else {
-            self.slots.give_back(&mut seat.slots, slot, session, found);
-            return Err(DebugError::NoMemory);
-        };
-        self.slots.tell_back(&mut seat.slots, slot, session, found);
-        Ok(DebugReply::Text(text))
-    }
-
-    /// Returns the listing of the session's program.
-    fn list(&self, seat: &mut ClientSeat<'p>, pass: &Pass) -> Result<DebugReply, DebugError>
-        requires seat { Rests self.now seat.old }
-        requires pass { IsPassOf seat.old pass.now }
-        ensures seat { Rests self.now seat.new }
-        ensures pass { IsPassOf seat.new pass.now }
-        ensures others { KeepsOthers seat.old pass.now seat.new }
-        ensures debugs { Debugs DebugCommand.List seat.old pass.now result seat.new }
-        ensures left { Leaves DebugCommand.List result seat.old pass.now seat.new }
-    {
-        let slot = pass.slot();
-        let Ok(taken) = self.slots.take_out(&mut seat.slots, slot) else {
-            return Err(DebugError::Busy);
-        };
-        let found = taken.word;
-        let session = taken.session;
-        let listing = list(self.alloc, &session);
-        self.slots.give_back(&mut seat.slots, slot, session, found);
-        match listing {
-            Ok(text) => Ok(DebugReply::Text(text)),
-            Err(_) => Err(DebugError::NoMemory),
-        }
+        let Obeyed { reply, word, tells } = obey(self.alloc, &mut session, taken.word, command);
+        self.hand_back(&mut seat.slots, slot, session, word, tells);
+        reply
     }
 }
