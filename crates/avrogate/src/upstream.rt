@@ -5,7 +5,7 @@ ghost use Rattle.std.specs.Prelude.{ℕ, List};
 use crate::ending::told;
 use command_line::ServeWords;
 use commands::Status;
-use gateway_requests::Fault;
+use gateway_requests::{Fault, fault_message};
 use registry_store::KeptSchema;
 use schema_registry::{Keeper, Progress};
 use std::net::{Net, SocketAddr, TcpStream};
@@ -111,7 +111,7 @@ fn store_of(
 
 /// Prints why the schema in a line of a store, by its number from 1, is not held, and returns how the program ends.
 fn unheld(host: &HostRuntime, number: usize, fault: Fault) -> Status {
-    let Ok(why) = fault.message(host.alloc()) else {
+    let Ok(why) = fault_message(host.alloc(), fault) else {
         return Status::NoMemory;
     };
     if fault == Fault::NoMemory {

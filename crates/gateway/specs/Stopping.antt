@@ -6,7 +6,7 @@ use Rattle.session_pool.specs.declared.pool.ClientSeat.{ClientSeat}
 use Rattle.spec_sessions.specs.Pass.{Pass}
 use Rattle.session_pool.specs.Seats.{Finds, IsGone, KeepsAll, KeepsOthers}
 use Rattle.session_pool_slots.specs.Words.{with_worker}
-use Rattle.gateway.specs.declared.pooled.TheConstants.{MOST_ABANDONS}
+use Rattle.gateway.specs.declared.serving.TheConstants.{MOST_ABANDONS}
 
 -- the gate said no, or memory ran out
 abbrev pub IsWhyStopped : Type 0 → TranscodeFault → Type 0

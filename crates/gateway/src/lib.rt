@@ -4,7 +4,6 @@
 #![tactic(auto)]
 
 mod app;
-mod pooled;
 mod serving;
 mod working;
 
@@ -13,6 +12,5 @@ pub use gateway_core::{
     AnswerBytes, Evidence, Gate, NamedReply, NamedSchema, Place, Reply, Schemas, ServeError, Sight,
     TellError,
 };
-pub use pooled::{MOST_ABANDONS, Pooled};
-pub use serving::{reply_named, reply_to, serve_and_tell, serve_one};
+pub use serving::{MOST_ABANDONS, Pooled, reply_named, reply_to, serve_and_tell, serve_one};
 pub use working::{Helping, SLICE, pop_client, pop_worker, work};

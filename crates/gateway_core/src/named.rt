@@ -13,10 +13,10 @@ ghost use Rattle.spec_service.specs.NamedServing.{FulfilsNamed, IsNamedAnswer, I
 ghost use Rattle.gateway_core.specs.Serving.{TellsRequest};
 ghost use Rattle.gateway_core.specs.Transcoding.{IsWhyNone};
 
+use crate::answering::bytes_of;
 use crate::app::App;
 use crate::gate::Gate;
 use crate::messages::{MessageFor, NamedPair, Rewritten, Schemas, Unpaired, rewrite};
-use crate::replying::bytes_of;
 use crate::transcode::Transcode;
 use gateway_requests::{Answer, AnswerBytes, Fault, Request, schema_text};
 use schema_registry::{Receipt, SharedRegistry};

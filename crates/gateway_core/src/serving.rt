@@ -13,9 +13,9 @@ ghost use Rattle.gateway_core.specs.Serving.{IsFault, ServesSome, TellsAsked, Te
 ghost use Rattle.spec_service.specs.Serving.{IsServed};
 ghost use Rattle.gateway_core.specs.Transcoding.{IsWhyNone};
 
+use crate::answering::{Reply, reply_to};
 use crate::app::App;
 use crate::gate::Gate;
-use crate::replying::{Reply, reply_to};
 use crate::serve_error::{ServeError, TellError};
 use crate::transcode::Transcode;
 use crate::writing::write_all;

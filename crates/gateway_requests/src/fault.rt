@@ -13,7 +13,7 @@ use std::alloc::{AllocError, Global};
 use wire_frames::EnvelopeError;
 
 /// Returns the text of a fault. The error is that memory ran out.
-pub(crate) fn fault_message(alloc: Global, fault: Fault) -> Result<String, AllocError>
+pub fn fault_message(alloc: Global, fault: Fault) -> Result<String, AllocError>
     ensures { IfOk result (λ text. string_bytes text ≡ message_of fault) }
 {
     match fault {

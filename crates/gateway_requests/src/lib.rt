@@ -20,7 +20,7 @@ mod sending;
 
 pub use answer::Answer;
 pub use asking::{Chosen, action_at, choose, request_of, transcoding_of};
-pub use fault::Fault;
+pub use fault::{Fault, fault_message};
 pub use head::{Front, content_length, is_number, number_up_to, read_body, read_head};
 pub use laws::codes_begin_with_their_status;
 pub use limits::{MOST_BODY, MOST_FIELDS, MOST_HEAD, MOST_TRIES, limits_are_these};

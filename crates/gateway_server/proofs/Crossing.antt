@@ -16,7 +16,7 @@ use Rattle.gateway_server.specs.contracts.beside.Questions as questions
 use Rattle.gateway_server.proofs.connections.Connections.TheSendSync as connections
 use Rattle.schema_registry.proofs.Crossing.{shared-sync}
 use Rattle.session_pool.proofs.Crossing.{client-send, pool-sync, worker-send}
-use Rattle.gateway_server.proofs.signals.Signals.TheSendSync as signals
+use Rattle.gateway_server.proofs.gate.Signals.TheSendSync as signals
 use Rattle.gateway_server.specs.contracts.beside.Watching as watching
 use Rattle.gateway_server.specs.contracts.client.Client as client
 use Rattle.gateway_server.specs.contracts.fetchers.Fetcher as fetcher

@@ -17,7 +17,6 @@ mod log;
 mod options;
 mod service;
 mod shared;
-mod signals;
 mod staying;
 mod threads;
 mod upstream_client;

@@ -6,9 +6,9 @@ ghost use Rattle.gateway_server.specs.Options.{IsWithin};
 
 use crate::beside::{Beside, FetchNotes, NoUpstream, Questions, Source, Watching};
 use crate::fetchers::{Fetcher, run_fetchers};
+use crate::gate::Signals;
 use crate::options::ServeOptions;
 use crate::shared::Shared;
-use crate::signals::Signals;
 use crate::threads::run_threads;
 use crate::{Bounds, Connections, LogLock};
 use command_io::{RunError, write_whole};

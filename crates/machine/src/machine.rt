@@ -1,30 +1,33 @@
-//! A run of a program, as a state of the instruction table.
+//! A run of a program, as a state of the instruction table: what it asks of its store, how it ended, and how that is
+//! taken out.
 
-#![tactic(auto, using(crate::proofs::Appending::goes_on, crate::proofs::Appending::same_arena))]
+#![tactic(auto, using(crate::proofs::Appending::goes_on, crate::proofs::Appending::no_more, crate::proofs::Appending::stays_open, crate::proofs::Appending::same_arena))]
 
-ghost use Rattle.std.specs.Prelude.{◌≡◌, ◌≢◌, ◌≤◌, ◌<◌, ◌+◌, ℕ, [], ◌∷◌, ◌++◌, length, is_some, option_to_list, OnOk, OnErr, Some, None, false, true};
+ghost use Rattle.std.specs.Prelude.{◌++◌, ◌+◌, ◌<◌, ◌∷◌, ◌≡◌, ◌≢◌, ◌≤◌, IfOk, None, OnErr, OnOk, Some, [], false, is_some, length, option_map, option_to_list, true, ℕ};
 ghost use Rattle.spec_decoding.specs.declared.fault.Fault.TheVariants.{NoMemory};
 ghost use Rattle.spec_avro.specs.declared.meter.Meter.{Meter};
 ghost use Rattle.spec_machine.specs.declared.limits.TheConstants.{MOST_INSTRS};
 ghost use Rattle.spec_machine.specs.State.{has_current, meter_of};
 ghost use Rattle.avro_bytes.specs.Shortest.{IsTight};
 ghost use Rattle.spec_avro.specs.Shortest.{shortest};
-ghost use Rattle.spec_machine.specs.Table.{added, next, stop, trap};
+ghost use Rattle.spec_machine.specs.Table.{added, missed, next, pushed, stop, trap, with_frames};
 ghost use Rattle.machine_store.specs.declared.rules.Verdict.TheVariants.{Done};
 ghost use Rattle.machine_store.specs.Ending.{refused, told};
 ghost use Rattle.machine_store.specs.Buffers.{is_front};
-ghost use Rattle.machine.specs.Contract.{OnlyAppends, Takes};
+ghost use Rattle.machine.specs.Contract.{AppendsThese, OnlyAppends, Takes, closing_bytes};
 ghost use Rattle.machine.specs.RowContract.{HasNext, LeadsTo};
-ghost use Rattle.machine.specs.Running.{end_of};
+ghost use Rattle.machine.specs.Running.{IsThere, end_of, end_view_of, ended_of, start};
+ghost use Rattle.spec_avro.specs.declared.limits.TheConstants.{MOST_DEPTH};
+ghost use Rattle.machine_store.specs.Frames.{FewSlots, HasSlot, frame_of, has_current_below, is_skip, is_skipped, skip_walk_of, slots_of, walk_of};
+ghost use Rattle.machine_store.specs.Store.{close_blocks, close_record, leave, next_item, next_skipped, select};
 
 use crate::feed::Feed;
 use crate::slice::Foresight;
 use crate::step::Step;
-use crate::views::Ended;
-use avro_bytes::{Fault, Meter, Outcome, put_long};
+use avro_bytes::{BlockWalk, Fault, MalformedKind, Meter, Mismatch, Outcome, put_long};
 use isa::{End, Trap};
 use machine_scans::is_tight;
-use machine_store::{Content, Ending, RowCount, Store, TextCheck, Verdict};
+use machine_store::{Content, Ending, Opening, RowCount, Store, TextCheck, Verdict};
 use std::alloc::{AllocError, Global};
 use std::marker::Model;
 
@@ -366,5 +369,300 @@ impl Machine {
             return self.add(spelling);
         }
         self.add_long(number)
+    }
+}
+
+/// How a run ended, as a machine keeps it.
+#[derive(Drop)]
+pub(crate) enum Ended {
+    /// With this end, in which an output is a copy.
+    Told(End),
+    /// With the output, which is in the store: one segment, with which the arena begins.
+    InStore,
+}
+
+/// How a run ended, to be read.
+#[derive(Clone, Copy)]
+pub enum EndView<'a> {
+    /// With the output.
+    Done(&'a [u8]),
+    /// With a value for which the reader has no place.
+    Mismatch(Mismatch),
+    /// With a payload that is no datum of the writer's, and the offset of the first fault.
+    Malformed { kind: MalformedKind, at: usize },
+    /// With an output that passed its limit.
+    OutputTooLarge,
+    /// With a trap.
+    Trap(Trap),
+}
+
+/// Returns a view of an end.
+pub(crate) fn view_of_end(end: &End) -> EndView<'_>
+    ensures { end_view_of result ≡ end_of end.now }
+{
+    match end {
+        End::Out(Outcome::Done(output)) => EndView::Done(output),
+        End::Out(Outcome::Mismatch(mismatch)) => EndView::Mismatch(*mismatch),
+        End::Out(Outcome::Malformed { kind, at }) => EndView::Malformed {
+            kind: *kind,
+            at: *at,
+        },
+        End::Out(Outcome::OutputTooLarge) => EndView::OutputTooLarge,
+        End::Trap(trap) => EndView::Trap(*trap),
+    }
+}
+
+/// Returns a view of an end that was kept beside a store.
+pub(crate) fn view_of_ended<'a>(store: &'a Store, ended: &'a Ended) -> EndView<'a>
+    requires { IsThere store.now.layout (Some ended.now) }
+    ensures { end_view_of result ≡ ended_of store.now.store.out ended.now }
+{
+    match ended {
+        Ended::Told(end) => view_of_end(end),
+        Ended::InStore => match store.out_in_front() {
+            Some(output) => EndView::Done(output),
+            None => unreachable!(),
+        },
+    }
+}
+
+/// Returns an end that was kept beside a store, which is reset next. An output that is in the store is taken out of
+/// it, in the memory in which it lies.
+pub(crate) fn end_out_of(alloc: Global, store: &mut Store, ended: Ended) -> End
+    requires { IsThere store.old.layout (Some ended) }
+    ensures { end_of result ≡ ended_of store.old.store.out ended }
+{
+    match ended {
+        Ended::Told(end) => end,
+        Ended::InStore => match store.take_out(alloc) {
+            Some(output) => End::Out(Outcome::Done(output)),
+            None => unreachable!(),
+        },
+    }
+}
+
+impl Machine {
+    /// Returns whether there is a current buffer below the newest frame.
+    pub(crate) fn has_current_below(&self) -> bool
+        ensures { result ≡ has_current_below self.now.state.store.frames }
+    {
+        self.store.has_current_below()
+    }
+
+    /// Returns how many slots the newest frame has, if it is a record.
+    pub(crate) fn slots(&self) -> Option<usize>
+        ensures { result ≡ slots_of self.now.state.store.frames }
+    {
+        self.store.slots()
+    }
+
+    /// Returns whether the newest frame is a record that is skipped.
+    pub(crate) fn is_skip(&self) -> bool
+        ensures { result ≡ is_skip self.now.state.store.frames }
+    {
+        self.store.is_skip()
+    }
+
+    /// Returns the walk of the newest frame, if it is an array or a map.
+    pub(crate) fn walk(&self) -> Option<BlockWalk>
+        ensures { result ≡ walk_of self.now.state.store.frames }
+    {
+        self.store.walk()
+    }
+
+    /// Returns the walk of the newest frame, if it is an array or a map that is skipped.
+    pub(crate) fn skip_walk(&self) -> Option<BlockWalk>
+        ensures { result ≡ skip_walk_of self.now.state.store.frames }
+    {
+        self.store.skip_walk()
+    }
+
+    /// Returns the index of the first miss. `None` where there was none.
+    pub fn mark(&self) -> Option<u32>
+        ensures { result ≡ self.now.state.store.mark }
+    {
+        self.store.mark()
+    }
+
+    /// Returns whether the output passed its limit.
+    pub fn is_over(&self) -> bool
+        ensures { result ≡ self.now.state.store.over }
+    {
+        self.store.is_over()
+    }
+
+    /// Marks a miss if it is the first, after which nothing is held any more.
+    pub(crate) fn miss(&mut self, miss: u32)
+        requires { self.old.state.end ≡ None }
+        ensures missed { self.new.state ≡ missed miss self.old.state }
+        ensures appends { OnlyAppends self.old self.new }
+    {
+        self.store.miss(miss);
+    }
+
+    /// Opens a frame, inside which there are as many units as `inside` says, and goes on at the next instruction.
+    pub(crate) fn open(&mut self, opening: Opening, inside: Meter) -> Step
+        requires before { HasNext self.old }
+        requires few { FewSlots opening }
+        requires deep { length self.old.state.store.frames < MOST_DEPTH }
+        requires units { self.old.state.units ≤ inside.units }
+        ensures after { LeadsTo (next self.old.state.pos (pushed (frame_of opening) inside self.old.state)) result
+            self.old self.new }
+        ensures pos { self.new.state.pos ≡ self.old.state.pos }
+    {
+        if self.store.open(opening, inside.units).is_err() {
+            return Step::NoMemory;
+        }
+        self.pc += 1;
+        Step::Moved
+    }
+
+    /// Selects a slot of the newest record, and goes on at the next instruction.
+    pub(crate) fn select(&mut self, slot: usize) -> Step
+        requires before { HasNext self.old }
+        requires there { HasSlot slot (slots_of self.old.state.store.frames) }
+        ensures after { LeadsTo
+            (next self.old.state.pos (with_frames (select slot self.old.state.store.frames) self.old.state)) result
+            self.old self.new }
+        ensures pos { self.new.state.pos ≡ self.old.state.pos }
+        ensures memory { result ≢ Step.NoMemory }
+    {
+        self.store.select(slot);
+        self.pc += 1;
+        Step::Moved
+    }
+
+    /// Closes the newest record, and goes on at the next instruction.
+    pub(crate) fn close_record(&mut self) -> Step
+        requires before { HasNext self.old }
+        requires record { is_some (slots_of self.old.state.store.frames) ≡ true }
+        requires below { has_current_below self.old.state.store.frames ≡ true }
+        ensures after { LeadsTo (next self.old.state.pos (record self.old.state
+            { store = close_record self.old.state.store.frames self.old.state.store })) result self.old self.new }
+        ensures joins { AppendsThese [] self.old self.new }
+        ensures pos { self.new.state.pos ≡ self.old.state.pos }
+    {
+        if self.store.close_record().is_err() {
+            return Step::NoMemory;
+        }
+        self.pc += 1;
+        Step::Moved
+    }
+
+    /// Leaves the newest frame, which is skipped.
+    pub(crate) fn leave(&mut self)
+        requires runs { self.old.state.end ≡ None }
+        requires skipped { is_skipped self.old.state.store.frames ≡ true }
+        ensures left { self.new.state ≡ with_frames (leave self.old.state.store.frames) self.old.state }
+        ensures appends { OnlyAppends self.old self.new }
+    {
+        self.store.leave();
+    }
+
+    /// Goes on at the next item of the newest array or map, with the bytes up to offset `to` read.
+    #[tactic(auto, using(crate::proofs::Appending::next_many, crate::proofs::Appending::same_arena))]
+    pub(crate) fn gather(&mut self, walk: BlockWalk, to: usize, inside: Meter) -> Step
+        requires before { HasNext self.old }
+        requires blocks { is_some (walk_of self.old.state.store.frames) ≡ true }
+        requires units { self.old.state.units < inside.units }
+        ensures step { result ≡ Step.Moved }
+        ensures appends { OnlyAppends self.old self.new }
+        ensures arena { self.new.layout.arena ≡ self.old.layout.arena }
+        ensures gathered { self.new.state ≡ record (next to
+            (with_frames (next_item walk self.old.state.store.frames) self.old.state)) { units = inside.units } }
+        ensures frames { length self.new.state.store.frames ≡ length self.old.state.store.frames }
+    {
+        self.store.next_item(walk, inside.units);
+        self.pc += 1;
+        self.pos = to;
+        Step::Moved
+    }
+
+    /// Goes on at the next item of the newest array or map, which is skipped, with the bytes up to offset `to` read.
+    pub(crate) fn pass(&mut self, walk: BlockWalk, to: usize, inside: Meter) -> Step
+        requires before { HasNext self.old }
+        requires blocks { is_some (skip_walk_of self.old.state.store.frames) ≡ true }
+        requires units { self.old.state.units ≤ inside.units }
+        ensures step { result ≡ Step.Moved }
+        ensures appends { OnlyAppends self.old self.new }
+        ensures passed { self.new.state ≡ record (next to
+            (with_frames (next_skipped walk self.old.state.store.frames) self.old.state)) { units = inside.units } }
+    {
+        self.store.next_skipped(walk, inside.units);
+        self.pc += 1;
+        self.pos = to;
+        Step::Moved
+    }
+
+    /// Closes the newest array or map, and goes on at an address, with the bytes up to offset `to` read.
+    pub(crate) fn close_blocks(&mut self, address: usize, to: usize) -> Step
+        requires runs { self.old.state.end ≡ None }
+        requires blocks { is_some (walk_of self.old.state.store.frames) ≡ true }
+        requires below { has_current_below self.old.state.store.frames ≡ true }
+        ensures takes { Takes (Some (record self.old.state {
+          pc = address;
+          pos = to;
+          store = close_blocks
+              self.old.state.store.frames self.old.state.store;
+        })) result self.old self.new }
+        ensures appends { OnlyAppends self.old self.new }
+        ensures joins { AppendsThese (closing_bytes self.old.state.store.frames self.new.state.store.frames)
+            self.old self.new }
+        ensures content { self.new.state.content ≡ self.old.state.content }
+    {
+        if self
+            .store
+            .close_blocks(self.alloc, &mut self.scratch)
+            .is_err()
+        {
+            return Step::NoMemory;
+        }
+        self.pc = address;
+        self.pos = to;
+        Step::Moved
+    }
+
+    /// Returns a copy of the output's bytes.
+    pub(crate) fn put_together(&self) -> Result<Vec<u8>, AllocError>
+        ensures { IfOk result (λ out. out.items ≡ self.now.state.store.out) }
+    {
+        self.store.put_together(self.alloc)
+    }
+}
+
+impl Machine {
+    /// Returns how the run ended, to be read. `None` where it has not ended.
+    pub fn end(&self) -> Option<EndView<'_>>
+        ensures { option_map end_view_of result ≡ self.now.state.end }
+    {
+        match &self.end {
+            Some(ended) => Some(view_of_ended(&self.store, ended)),
+            None => None,
+        }
+    }
+
+    /// Returns how the run ended, and goes back to the state that `new` returns, in the memory that is left: an
+    /// output that is left in the arena takes the arena's memory along. `None` where the run has not ended.
+    pub fn end_and_reset(&mut self) -> Option<End>
+        ensures end { option_map end_of result ≡ self.old.state.end }
+        ensures begun { self.new ≡ start }
+    {
+        let end = match self.end.take() {
+            Some(ended) => Some(end_out_of(self.alloc, &mut self.store, ended)),
+            None => None,
+        };
+        self.reset();
+        end
+    }
+
+    /// Returns how the run ended. `None` where it has not ended.
+    pub fn into_end(self) -> Option<End>
+        ensures { option_map end_of result ≡ self.state.end }
+    {
+        let (alloc, mut store, end) = (self.alloc, self.store, self.end);
+        match end {
+            Some(ended) => Some(end_out_of(alloc, &mut store, ended)),
+            None => None,
+        }
     }
 }

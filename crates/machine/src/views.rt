@@ -1,16 +1,14 @@
-//! What a debugger reads from a machine; how a run ended, and how that is taken out.
+//! What a debugger reads from a machine.
 
 ghost use Rattle.std.specs.Prelude.{◌++◌, ◌≡◌, None, OnErr, OnOk, Some, false, is_some, length, option_map, reverse, slice_get, true};
 ghost use Rattle.machine_store.specs.Segments.{AreSegments, bytes_of};
 ghost use Rattle.machine_store.specs.Viewing.{buffer_of, place_and_length, segments_of_buffer, view_of};
 ghost use Rattle.machine_store.specs.Chunks.{content_of};
-ghost use Rattle.machine.specs.Running.{IsThere, carried, end_of, end_view_of, ended_of, start};
+ghost use Rattle.machine.specs.Running.{carried};
 
 use crate::machine::Machine;
-use avro_bytes::{MalformedKind, Mismatch, Outcome};
-use isa::{End, Trap};
-use machine_store::{BufferAt, Content, FrameView, Store};
-use std::alloc::{AllocError, Global};
+use machine_store::{BufferAt, Content, FrameView};
+use std::alloc::AllocError;
 
 impl Machine {
     /// Returns how many units were opened.
@@ -40,41 +38,6 @@ impl Machine {
         ensures { option_map content_of result ≡ self.now.state.content }
     {
         self.content
-    }
-
-    /// Returns how the run ended, to be read. `None` where it has not ended.
-    pub fn end(&self) -> Option<EndView<'_>>
-        ensures { option_map end_view_of result ≡ self.now.state.end }
-    {
-        match &self.end {
-            Some(ended) => Some(view_of_ended(&self.store, ended)),
-            None => None,
-        }
-    }
-
-    /// Returns how the run ended, and goes back to the state that `new` returns, in the memory that is left: an
-    /// output that is left in the arena takes the arena's memory along. `None` where the run has not ended.
-    pub fn end_and_reset(&mut self) -> Option<End>
-        ensures end { option_map end_of result ≡ self.old.state.end }
-        ensures begun { self.new ≡ start }
-    {
-        let end = match self.end.take() {
-            Some(ended) => Some(end_out_of(self.alloc, &mut self.store, ended)),
-            None => None,
-        };
-        self.reset();
-        end
-    }
-
-    /// Returns how the run ended. `None` where it has not ended.
-    pub fn into_end(self) -> Option<End>
-        ensures { option_map end_of result ≡ self.state.end }
-    {
-        let (alloc, mut store, end) = (self.alloc, self.store, self.end);
-        match end {
-            Some(ended) => Some(end_out_of(alloc, &mut store, ended)),
-            None => None,
-        }
     }
 
     /// Returns the bytes of a character that is cut at the end of what has moved of a text; none where no text moves,
@@ -144,74 +107,5 @@ impl Machine {
             Some(segment) => Some((segment.place, segment.end.saturating_sub(segment.place))),
             None => None,
         }
-    }
-}
-
-/// How a run ended, as a machine keeps it.
-#[derive(Drop)]
-pub(crate) enum Ended {
-    /// With this end, in which an output is a copy.
-    Told(End),
-    /// With the output, which is in the store: one segment, with which the arena begins.
-    InStore,
-}
-
-/// How a run ended, to be read.
-#[derive(Clone, Copy)]
-pub enum EndView<'a> {
-    /// With the output.
-    Done(&'a [u8]),
-    /// With a value for which the reader has no place.
-    Mismatch(Mismatch),
-    /// With a payload that is no datum of the writer's, and the offset of the first fault.
-    Malformed { kind: MalformedKind, at: usize },
-    /// With an output that passed its limit.
-    OutputTooLarge,
-    /// With a trap.
-    Trap(Trap),
-}
-
-/// Returns a view of an end.
-pub(crate) fn view_of_end(end: &End) -> EndView<'_>
-    ensures { end_view_of result ≡ end_of end.now }
-{
-    match end {
-        End::Out(Outcome::Done(output)) => EndView::Done(output),
-        End::Out(Outcome::Mismatch(mismatch)) => EndView::Mismatch(*mismatch),
-        End::Out(Outcome::Malformed { kind, at }) => EndView::Malformed {
-            kind: *kind,
-            at: *at,
-        },
-        End::Out(Outcome::OutputTooLarge) => EndView::OutputTooLarge,
-        End::Trap(trap) => EndView::Trap(*trap),
-    }
-}
-
-/// Returns a view of an end that was kept beside a store.
-pub(crate) fn view_of_ended<'a>(store: &'a Store, ended: &'a Ended) -> EndView<'a>
-    requires { IsThere store.now.layout (Some ended.now) }
-    ensures { end_view_of result ≡ ended_of store.now.store.out ended.now }
-{
-    match ended {
-        Ended::Told(end) => view_of_end(end),
-        Ended::InStore => match store.out_in_front() {
-            Some(output) => EndView::Done(output),
-            None => unreachable!(),
-        },
-    }
-}
-
-/// Returns an end that was kept beside a store, which is reset next. An output that is in the store is taken out of
-/// it, in the memory in which it lies.
-pub(crate) fn end_out_of(alloc: Global, store: &mut Store, ended: Ended) -> End
-    requires { IsThere store.old.layout (Some ended) }
-    ensures { end_of result ≡ ended_of store.old.store.out ended }
-{
-    match ended {
-        Ended::Told(end) => end,
-        Ended::InStore => match store.take_out(alloc) {
-            Some(output) => End::Out(Outcome::Done(output)),
-            None => unreachable!(),
-        },
     }
 }

@@ -16,8 +16,8 @@ use Rattle.spec_machine.specs.Simulation.{EndsWithOutcome}
 use Rattle.machine.specs.Ending.{LeadsToOutcome}
 use Rattle.machine.specs.Slice.{IsWhy}
 use Rattle.spec_machine.specs.Breakpoints.{stops_at}
-use Rattle.session_core.specs.declared.slice.Stopped.{Stopped}
-use Rattle.session_core.specs.declared.slice.Stopped.TheVariants.{Ended, Spent, Broke, Waits}
+use Rattle.session_core.specs.declared.session.Stopped.{Stopped}
+use Rattle.session_core.specs.declared.session.Stopped.TheVariants.{Ended, Spent, Broke, Waits}
 use Rattle.session_core.specs.SessionEnding.{EndsInOneSlice, EndsWithin}
 use Rattle.spec_sessions.specs.Rows.{TakesRows}
 use Rattle.spec_sessions.specs.Session.{OutOfMemory, Session, end_in, machine_end, session_end, state_of}

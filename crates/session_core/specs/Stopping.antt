@@ -4,8 +4,8 @@ use Rattle.spec_machine.specs.State.{State}
 use Rattle.machine.specs.declared.slice.Why.{Why}
 use Rattle.machine.specs.declared.slice.Why.TheVariants as whys
 use Rattle.machine.specs.Slice.{IsWhy}
-use Rattle.session_core.specs.declared.slice.Stopped.{Stopped}
-use Rattle.session_core.specs.declared.slice.Stopped.TheVariants.{Ended, Spent, Broke, Waits}
+use Rattle.session_core.specs.declared.session.Stopped.{Stopped}
+use Rattle.session_core.specs.declared.session.Stopped.TheVariants.{Ended, Spent, Broke, Waits}
 use Rattle.spec_sessions.specs.Session.{Session, state_of}
 
 -- want of memory ends a session

@@ -15,7 +15,6 @@ mod published;
 mod running;
 mod session;
 mod session_refusal;
-mod slice;
 mod world;
 
 pub use act::Act;
@@ -24,8 +23,7 @@ pub use laws::{replies_tell_what_happened, sessions_are_their_own};
 pub use limits::{MOST_BREAKS, MOST_ROOM, limits_are_these};
 pub use pair_row::PairRow;
 pub use programs::Programs;
-pub use session::Session;
+pub use session::{Session, Slice, Stopped};
 pub use session_refusal::{BreakRefusal, ClearRefusal, PieceRefusal, RefusedPiece};
-pub use slice::{Slice, Stopped};
 pub use spec_sessions::{EventRefusal, EventReply, PublishError, SessionEnd};
 pub use world::World;

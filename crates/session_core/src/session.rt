@@ -1,4 +1,4 @@
-//! A program run on bytes that come in pieces, with breakpoints.
+//! A program run on bytes that come in pieces, with breakpoints; how many rows were taken of it, and why no more.
 
 ghost use Rattle.std.specs.Prelude.{◌+◌, ◌<◌, ◌≡◌, ◌≢◌, ◌≤◌, IfErr, None, OnOk, Some, [], false, if◌then◌else◌, is_some, length, option_map, slice_get};
 ghost use Rattle.machine.specs.Run.{IsCarry};
@@ -19,7 +19,6 @@ ghost use Rattle.machine.specs.Slice.{IsWhy};
 
 use crate::limits::{MOST_BREAKS, MOST_ROOM};
 use crate::session_refusal::{BreakRefusal, ClearRefusal, PieceRefusal, RefusedPiece};
-use crate::slice::{Slice, Stopped};
 use avro_bytes::MOST_PAYLOAD;
 use avro_types::Nodes;
 use isa::{End, Program};
@@ -458,4 +457,41 @@ pub(crate) fn take(run: &mut Run, breaks: &[u32], limit: u64) -> machine::Slice
     let slice = run.slice(breaks, limit);
     let _counted = run.machine().count(); // read for the proof
     slice
+}
+
+/// Why no more rows were taken of a session: the first of these that is true of what is left.
+#[derive(Clone, Copy, Debug, PartialEq, Eq)]
+pub enum Stopped {
+    /// The session has ended, also where memory ran out.
+    Ended,
+    /// As many rows were taken as were asked for, or as can be counted.
+    Spent,
+    /// The next instruction is at a breakpoint.
+    Broke,
+    /// The next row needs bytes that have not come.
+    Waits,
+}
+
+/// How many rows were taken of a session, and why no more.
+#[derive(Clone, Copy, Debug, PartialEq, Eq)]
+pub struct Slice {
+    pub rows: u64,
+    pub stopped: Stopped,
+}
+
+impl Stopped {
+    ghost use Rattle.std.specs.Prelude.{◌≡◌};
+    ghost use Rattle.session_core.specs.Stopping.{stopped_of};
+
+    /// Returns why a session stopped whose run took no more rows for this reason: it ends where memory ran out.
+    pub(crate) fn of(why: Why) -> Stopped
+        ensures { result ≡ stopped_of why }
+    {
+        match why {
+            Why::Ended | Why::NoMemory => Stopped::Ended,
+            Why::Spent => Stopped::Spent,
+            Why::Broke => Stopped::Broke,
+            Why::Waits => Stopped::Waits,
+        }
+    }
 }

@@ -3,7 +3,7 @@ use denote.Param.Send.{IsSend, IsSync, sendable}
 use Rattle.std.proofs.Crossing.{crosses}
 use Rattle.atomic_blocks.proofs.rows.shared.Rows.TheSendSync as rows
 use Rattle.atomic_blocks.proofs.rows.shared.Seat.TheSendSync as passes
-use Rattle.session_pool.specs.contracts.jobs.Jobs as jobs
+use Rattle.session_pool.specs.contracts.turning.Jobs as jobs
 use Rattle.session_pool.specs.contracts.seat.JobSeat as seat
 
 pub jobs-sync : IsSync jobs.the_row

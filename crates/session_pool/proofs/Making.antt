@@ -2,7 +2,7 @@
 use Rattle.std.proofs.Common.{◌≡◌, ◌≢◌, ◌<◌, ◌≤◌, ◌+◌, ℕ, List, [], ◌∷◌, ◌++◌, Some, length, slice_get, set, vec_len, sym, ap, ◌∙◌, subst, ⊎_elim, arith}
 use Rattle.std.proofs.lemmas.Option.{slice_get_within}
 use Rattle.crossbeam_deque.specs.Handles.{stealer_deque, worker_deque}
-use Rattle.session_pool.specs.declared.jobs.Jobs.{Jobs}
+use Rattle.session_pool.specs.declared.turning.Jobs.{Jobs}
 use Rattle.session_pool.specs.declared.seat.JobSeat.{JobSeat}
 use Rattle.session_pool.specs.Passes.{AreEmptyPasses, Thief}
 use Rattle.session_pool.specs.JobSeats.{AreAlone, IsAlone, IsSeatOf, kept_by, number_of, workers_of}

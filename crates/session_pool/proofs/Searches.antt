@@ -5,7 +5,7 @@ use Rattle.session_pool_slots.specs.Steps.{handing}
 use Rattle.session_pool_slots.specs.Views.{FoundWord, found_word}
 use Rattle.session_pool_slots.specs.Words.{ready}
 use Rattle.session_pool_slots.specs.declared.slots.SlotSeat.{SlotSeat}
-use Rattle.session_pool_slots.specs.declared.working.RunSlice.{RunSlice}
+use Rattle.session_pool_slots.specs.declared.taking.RunSlice.{RunSlice}
 use Rattle.session_pool_slots.specs.Known.{Known}
 use Rattle.session_pool_slots.specs.Seats.{knows}
 use Rattle.session_pool_slots.specs.Working.{FindsNoneReady, Runs, Sees, TakesFirst}

@@ -1,6 +1,6 @@
 -- What each call does to a seat. All of this is this project's own.
 use Rattle.std.specs.Prelude.{◌≡◌, ◌≢◌, ◌≤◌, ◌⊎◌, ℕ, ◌+◌, ◌-◌, List, [], ◌∷◌, ◌++◌, All, length, Option, Some, None, slice_get}
-use Rattle.session_pool.specs.declared.jobs.Jobs.{Jobs}
+use Rattle.session_pool.specs.declared.turning.Jobs.{Jobs}
 use Rattle.session_pool.specs.declared.limits.TheConstants.{MOST_KEPT}
 use Rattle.session_pool.specs.declared.seat.JobSeat.{JobSeat}
 use Rattle.session_pool.specs.Passes.{listed}

@@ -1,7 +1,7 @@
 -- A worker's seat: a deque of its own, and a pass for each worker's. All of this is this project's own.
 use Rattle.std.specs.Prelude.{◌≡◌, ℕ, ◌<◌, vec_len, List, [], Some, slice_get}
 use Rattle.crossbeam_deque.specs.Handles.{stealer_deque, worker_deque, worker_view}
-use Rattle.session_pool.specs.declared.jobs.Jobs.{Jobs}
+use Rattle.session_pool.specs.declared.turning.Jobs.{Jobs}
 use Rattle.session_pool.specs.declared.seat.JobSeat.{JobSeat}
 use Rattle.session_pool.specs.Passes.{ArePassesOf, Thief, taken_by_pass}
 

@@ -9,7 +9,7 @@ use Rattle.session_pool.specs.JobSeats.{number_of, workers_of}
 use Rattle.session_pool_slots.specs.Results.{HasNoted, HasSame, IsUnready, words_of}
 use Rattle.session_pool_slots.specs.Words.{ready, slots}
 use Rattle.session_pool_slots.specs.declared.slots.SlotSeat.{SlotSeat}
-use Rattle.session_pool_slots.specs.declared.working.RunSlice.{RunSlice}
+use Rattle.session_pool_slots.specs.declared.taking.RunSlice.{RunSlice}
 use Rattle.session_pool_slots.specs.Account.{has_ended}
 use Rattle.session_pool_slots.specs.Seats.{knows}
 use Rattle.session_pool_slots.specs.Working.{FindsNoneReady, Runs, Sees, TakesFirst}

@@ -1,6 +1,6 @@
 -- What a worker's turn reports. All of this is this project's own.
 use Rattle.std.specs.Prelude.{◌≡◌, ◌<◌, ◌≤◌, ℕ, [], ◌∷◌, ◌++◌}
-use Rattle.session_core.specs.declared.slice.Stopped.{Stopped}
+use Rattle.session_core.specs.declared.session.Stopped.{Stopped}
 use Rattle.session_core.specs.SessionEnding.{EndsInOneSlice}
 use Rattle.spec_sessions.specs.Rows.{TakesRows, slice_rows}
 use Rattle.spec_sessions.specs.Session.{Session}

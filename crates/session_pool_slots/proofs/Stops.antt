@@ -4,8 +4,8 @@ use Rattle.std.specs.Option.{option_and_then}
 use Rattle.spec_machine.specs.State as states
 use Rattle.spec_machine.specs.State.{State}
 use Rattle.machine.specs.Slice.{IsWhy}
-use Rattle.session_core.specs.declared.slice.Stopped.{Stopped}
-use Rattle.session_core.specs.declared.slice.Stopped.TheVariants.{Broke, Ended, Spent, Waits}
+use Rattle.session_core.specs.declared.session.Stopped.{Stopped}
+use Rattle.session_core.specs.declared.session.Stopped.TheVariants.{Broke, Ended, Spent, Waits}
 use Rattle.spec_sessions.specs.Session.{OutOfMemory, Session, machine_end, session_end, state_of}
 use Rattle.session_core.specs.Stopping.{IsStopped, IsStoppedAs, why_of}
 use Rattle.session_pool_slots.specs.Words.{IsWordOf, ready, waiting}

@@ -1,7 +1,7 @@
 -- The word that a session leaves. All of this is this project's own.
 use Rattle.std.specs.Prelude.{ℕ, if◌then◌else◌}
-use Rattle.session_core.specs.declared.slice.Stopped.{Stopped}
-use Rattle.session_core.specs.declared.slice.Stopped.TheVariants.{Broke, Ended, Spent, Waits}
+use Rattle.session_core.specs.declared.session.Stopped.{Stopped}
+use Rattle.session_core.specs.declared.session.Stopped.TheVariants.{Broke, Ended, Spent, Waits}
 use Rattle.spec_sessions.specs.Session.{Session}
 use Rattle.session_pool_slots.specs.Words.{ended, ready, waiting}
 use Rattle.session_pool_slots.specs.Account.{has_ended}

@@ -1,6 +1,6 @@
 -- What a worker's steps come to.
 use Rattle.std.specs.Prelude.{◌≡◌, ◌≤◌, ℕ, List, [], ◌∷◌, ◌++◌}
-use Rattle.session_core.specs.declared.slice.Stopped.{Stopped}
+use Rattle.session_core.specs.declared.session.Stopped.{Stopped}
 use Rattle.session_core.specs.SessionEnding.{EndsInOneSlice}
 use Rattle.spec_sessions.specs.Rows.{TakesRows, slice_rows}
 use Rattle.spec_sessions.specs.Session.{Session}
@@ -9,7 +9,7 @@ use Rattle.session_pool_slots.specs.Words.{ready, slots}
 use Rattle.session_pool_slots.specs.Steps.{handing}
 use Rattle.session_pool_slots.specs.Results.{HasNoted, HasSame, IsUnready, Searched, words_of}
 use Rattle.session_pool_slots.specs.declared.slots.SlotSeat.{SlotSeat}
-use Rattle.session_pool_slots.specs.declared.working.RunSlice.{RunSlice}
+use Rattle.session_pool_slots.specs.declared.taking.RunSlice.{RunSlice}
 use Rattle.session_pool_slots.specs.Account.{has_ended}
 use Rattle.session_pool_slots.specs.Known.{Known}
 use Rattle.session_pool_slots.specs.Leaving.{word_after_slice}

@@ -6,11 +6,9 @@
 
 mod slots;
 mod taking;
-mod working;
 
 pub use slots::{
     ENDED, FREE, READY, SLOTS, SessionSlots, SlotSeat, WAITING, WITH_CLIENT, WITH_WORKER,
     word_after, word_after_slice,
 };
-pub use taking::{Busy, TakenOut};
-pub use working::RunSlice;
+pub use taking::{Busy, RunSlice, TakenOut};

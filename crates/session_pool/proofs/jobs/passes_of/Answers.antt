@@ -1,5 +1,0 @@
-use Rattle.session_pool.proofs.Balance.{admits}
-use Rattle.session_pool.proofs.jobs.passes_of.Goals as goal
-
-pub pass-requires : goal.pass-requires
-pass-requires c = admits
