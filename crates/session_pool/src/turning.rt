@@ -152,7 +152,7 @@ impl<'p> SessionPool<'p> {
             (StealsMiss (workers_of self.now.jobs) seat.old seat.new)
             (λ slot. StealsLead (workers_of self.now.jobs) slot seat.old seat.new) }
     {
-        let own = seat.jobs.number();
+        let own = seat.jobs.number;
         for from in 0..self.jobs.workers() {
             if from == own {
                 continue;
