@@ -5,7 +5,6 @@ pub mod Orders
 pub mod Outcomes
 pub mod Pairs
 pub mod Passes
-pub mod Refused
 mod Obeyed
 pub mod Searches
 mod Balance

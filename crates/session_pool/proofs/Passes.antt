@@ -1,13 +1,13 @@
 -- A pass after a call.
-use Rattle.std.proofs.Common.{◌≡◌, ◌<◌, ℕ, ◌+◌, List, [], ◌∷◌, ◌++◌, Some, refl, sym, ap, ◌∙◌, inl, subst, arith}
+use Rattle.std.proofs.Common.{◌≡◌, ℕ, List, [], ◌∷◌, ◌++◌, Some, refl, sym, ap, ◌∙◌, subst}
 use Rattle.spec_machine.specs.Program.{Program}
 use Rattle.spec_sessions.specs.Session.{Session}
-use Rattle.session_pool_slots.specs.Results.{Finds, GaveBack, HasIn, HasOut, Others, TookOut}
+use Rattle.session_pool_slots.specs.Results.{Finds, GaveBack, HasIn, Others, TookOut}
 use Rattle.session_pool_slots.specs.Steps.{handing, pass_in, pass_out}
 use Rattle.session_pool_slots.specs.Views.{Handed}
-use Rattle.session_pool_slots.specs.Words.{ready, slots}
+use Rattle.session_pool_slots.specs.Words.{ready}
 use Rattle.spec_sessions.specs.Account.{Account}
-use Rattle.session_pool_slots.specs.Account.{At, RowsOn, has_ended, kept, new_account, told_all, with_breaks, with_seen}
+use Rattle.session_pool_slots.specs.Account.{At, RowsOn, has_ended, kept, new_account}
 use Rattle.session_pool_slots.specs.Known.{Known, PassData, pass_of}
 use Rattle.session_pool_slots.proofs.Accounts.{rows_keep}
 use Rattle.session_pool_slots.specs.declared.slots.SlotSeat.{SlotSeat}
@@ -35,17 +35,6 @@ module _ (P : Program) (old mid new : Known) (i slot word : ℕ) (y x : Session)
 
   pub found : Finds old slot word mid
   found = subst (λ (k : ℕ). Finds old k word mid) same out.found
-
-  -- what giving it back asks of its pass
-  pub is_out : (Holds : PassData → Session → Type 0) → Holds (pass_out has.pass y) y → HasOut mid i Holds
-  is_out Holds holds = record {
-    pass = pass_out has.pass y;
-    session = y;
-    inside = subst (λ (k : ℕ). k < slots) (sym same) has.inside;
-    there = out.now;
-    out = refl;
-    holds = holds;
-  }
 
   module _ (back : Account → Session → Account) (left_word : ℕ) (gave : GaveBack back mid i x left_word new) where
     now : pass_of slot new ≡ Some (pass_in (back has.pass.account x) left_word)
@@ -81,23 +70,8 @@ module _ (P : Program) (old mid new : Known) (i slot word : ℕ) (y x : Session)
 
 -- ---- rows that are reported
 
-pub told_rows : (a : Account) (y x : Session) → At a y → RowsOn y x → told_all a x ≡ with_seen x.count a
-told_rows a y x f on = let r = rows_keep y x on in
-    λ j. record { program = (r.program ∙ f.program) j; sent = (r.bytes ∙ f.bytes) j; closed = (r.closed ∙ f.closed) j; breaks = (r.breaks ∙ f.breaks) j; seen = x.count }
-
 pub rows_run : (y x : Session) → RowsOn y x → x.program ≡ y.program
 rows_run y x on = (rows_keep y x on).program
-
-pub no_rows_on : (y : Session) → RowsOn y y
-no_rows_on y = let e : y.count ≡ y.count + 0 = omega arith in (0, 0, inl (refl, λ j. record y { count = e j }))
-
--- ---- no rows, and breakpoints
-
-pub kept_same : (a : Account) (y x : Session) → At a y → x ≡ y → kept a x ≡ a
-kept_same a y x f e = λ j. record { program = (ap (λ (s : Session). s.program) e ∙ f.program) j; sent = (ap (λ (s : Session). s.bytes) e ∙ f.bytes) j; closed = (ap (λ (s : Session). s.closed) e ∙ f.closed) j; breaks = (ap (λ (s : Session). s.breaks) e ∙ f.breaks) j; seen = a.seen }
-
-pub kept_breaks : (a : Account) (y x : Session) (make : List ℕ → List ℕ) → At a y → x ≡ record y { breaks = make y.breaks } → kept a x ≡ with_breaks (make a.breaks) a
-kept_breaks a y x make f e = λ j. record { program = (ap (λ (s : Session). s.program) e ∙ f.program) j; sent = (ap (λ (s : Session). s.bytes) e ∙ f.bytes) j; closed = (ap (λ (s : Session). s.closed) e ∙ f.closed) j; breaks = (ap (λ (s : Session). s.breaks) e ∙ ap make f.breaks) j; seen = a.seen }
 
 -- ---- a seat and its pass
 
@@ -108,10 +82,6 @@ module _ (pass : Pass) (old : ClientSeat) (mid new : SlotSeat) (i word : ℕ) (y
   -- the account fits the session that was taken out
   pub fits_pass : At (told old pass) y
   fits_pass = fits P (knows old.slots) (knows mid) (knows new) i pass.slot word y x same is.slot is.program took.took
-
-  -- what telling it back asks of its pass
-  pub may_tell : RowsOn y x → HasOut (knows mid) i (λ p before. RowsOn before x)
-  may_tell on = is_out P (knows old.slots) (knows mid) (knows new) i pass.slot word y x same is.slot is.program took.took (λ p before. RowsOn before x) on
 
   module _ (back : Account → Session → Account) (left_word : ℕ) (gave : GaveBack back (knows mid) i x left_word (knows new)) where
     pub still : ((a : Account) → (back a x).program ≡ y.program) → IsPassOf (record old { slots = new }) pass
@@ -131,18 +101,6 @@ module _ (pass : Pass) (old : ClientSeat) (mid new : SlotSeat) (i word : ℕ) (y
 
   pub still_kept : (left_word : ℕ) → GaveBack kept (knows mid) i x left_word (knows new) → x.program ≡ y.program → IsPassOf (record old { slots = new }) pass
   still_kept left_word gave runs = still kept left_word gave (λ a. runs)
-
-  pub still_told : (left_word : ℕ) → GaveBack told_all (knows mid) i x left_word (knows new) → RowsOn y x → IsPassOf (record old { slots = new }) pass
-  still_told left_word gave on = still told_all left_word gave (λ a. rows_run y x on)
-
-  pub tells_rows : (left_word : ℕ) → GaveBack told_all (knows mid) i x left_word (knows new) → RowsOn y x → told (record old { slots = new }) pass ≡ with_seen x.count (told old pass)
-  tells_rows left_word gave on = told_then told_all left_word gave ∙ told_rows (told old pass) y x fits_pass on
-
-  pub keeps_told : (left_word : ℕ) → GaveBack kept (knows mid) i x left_word (knows new) → x ≡ y → told (record old { slots = new }) pass ≡ told old pass
-  keeps_told left_word gave e = told_then kept left_word gave ∙ kept_same (told old pass) y x fits_pass e
-
-  pub tells_breaks : (left_word : ℕ) → GaveBack kept (knows mid) i x left_word (knows new) → (make : List ℕ → List ℕ) → x ≡ record y { breaks = make y.breaks } → told (record old { slots = new }) pass ≡ with_breaks (make (told old pass).breaks) (told old pass)
-  tells_breaks left_word gave make e = told_then kept left_word gave ∙ kept_breaks (told old pass) y x make fits_pass e
 
 -- a pass for a session that has begun
 pub has_begun : (old : Known) (new : ClientSeat) (slot : ℕ) (pair : Pair) (pass : Pass) → pass ≡ record { slot = slot; pair = pair } → HasBegun old slot pair.program (knows new.slots) → IsPassOf new pass

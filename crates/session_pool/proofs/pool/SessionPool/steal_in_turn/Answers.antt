@@ -7,7 +7,7 @@ use Rattle.session_pool.proofs.pool.SessionPool.steal_in_turn.Goals as goal
 use Rattle.session_pool.proofs.pool.SessionPool.steal_in_turn.Goals.{in-Some+in_default-take_job, in_default}
 
 pub loop-from-init : goal.loop-from-init
-loop-from-init c = steals_first _ _ _ c.requires c.number-own.ensures
+loop-from-init c = steals_first _ _ _ c.requires refl
 
 pub loop-from-preserved-then-from-own : goal.loop-from-preserved-then-from-own
 loop-from-preserved-then-from-own c = steals_itself _ _ _ _ _ c.loop-from.invariant c.if-from-own.true
