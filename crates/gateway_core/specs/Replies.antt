@@ -1,4 +1,4 @@
--- Replies and refusals of the registry as answers (Confluent Schema Registry API).
+-- Which commands set a level. This project's own.
 use Rattle.std.specs.Prelude.{◌≡◌, Bool, true, false}
 use Rattle.spec_registry.specs.Command.{Command, SetLevelCommand}
 

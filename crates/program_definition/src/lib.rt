@@ -1,6 +1,6 @@
 //! Programs.
 //!
-//! The program of a pair of schemas.
+//! What is where in the program of a pair of schemas, which `spec_machine` defines: definitions and laws alone.
 #![tactic(auto)]
 
 mod laws;
