@@ -1,8 +1,8 @@
 //! Schemas.
 //!
 //! Drafts of a schema's nodes, and where each name is defined; names, attributes and aliases of a schema's parts; which
-//! branches of a union differ, and which branch its defaults are of (Avro 1.11 Specification, "Names", "Aliases",
-//! "Complex Types", "Unions").
+//! branches of a union are apart, and which branch its defaults are of; and what is wrong with a schema (Avro 1.11
+//! Specification, "Names", "Aliases", "Complex Types", "Unions").
 #![tactic(auto)]
 
 mod aliases;

@@ -1,4 +1,4 @@
--- The first line of an input, and what is after it. This project's own.
+-- The lines of an input. This project's own.
 use Rattle.std.specs.Prelude.{◌≡◌, ◌⊎◌, ℕ, List, [], ◌∷◌, ◌++◌}
 
 -- the first line, ended by an LF or by the last byte, and what follows it

@@ -1,4 +1,4 @@
--- The kind of a line of `replay`, and what its request may be. This project's own.
+-- Which line of `replay` and of `debug` some bytes are. All of this is this project's own.
 use Rattle.std.specs.Prelude.{ℕ, List, [], ◌∷◌, Option, Some, None}
 use Rattle.spec_sessions.specs.Event.{Register, SetLevel, Piece}
 use Rattle.spec_lines.specs.Request.{Request, Happen}

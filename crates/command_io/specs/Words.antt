@@ -1,4 +1,4 @@
--- The words that are left of a line. This project's own.
+-- What words say: numbers, subjects, bytes. All of this is this project's own.
 use Rattle.std.specs.Prelude.{ℕ, List, [], Option, Some, None}
 use Rattle.std.specs.Borrow.{Bor}
 use Rattle.spec_machine.specs.ListingWords.{words}

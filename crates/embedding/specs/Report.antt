@@ -1,6 +1,6 @@
 -- What a report says of a payload or a message, of the room that was given for the output, and of who holds the
--- transcoder. All of this is this project's own; the outcome of a payload is that of `spec_avro`, and a message is an
--- `envelope` of `spec_registry`.
+-- transcoder. All of this is this project's own; the outcome of a payload is that of `resolver`, and a message is an
+-- `envelope` of `wire_frames`.
 use Rattle.std.specs.Prelude.{◌≡◌, ℕ, List, Err}
 use Rattle.spec_avro.specs.Outcome.{outcome_of}
 use Rattle.spec_avro.specs.declared.outcome.Outcome as rust

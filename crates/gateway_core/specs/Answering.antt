@@ -1,5 +1,4 @@
--- How a reply of the registry becomes an answer, with the receipts that it rests on, for private clauses. This
--- project's own.
+-- What the service may answer to what is asked, and the receipts that its answer rests on.
 use Rattle.std.specs.Prelude.{◌≡◌, ◌⊎◌, ℕ, List, Ok}
 use Rattle.spec_registry.specs.Command.{Command}
 use Rattle.spec_registry.specs.Reply.{Reply, EntryReply, IdReply, CompatibleReply, NumbersReply, NamesReply, TextReply, LevelReply}

@@ -1,4 +1,4 @@
--- Which commands set a level. This project's own.
+-- Replies and refusals of the registry as answers (Confluent Schema Registry API).
 use Rattle.std.specs.Prelude.{◌≡◌, Bool, true, false}
 use Rattle.spec_registry.specs.Command.{Command, SetLevelCommand}
 

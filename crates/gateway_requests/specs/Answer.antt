@@ -1,4 +1,4 @@
--- The answer that a value of the Rust type represents (`Answer` of `spec_service`). This project's own.
+-- What is answered, and its bytes (RFC 9112, section 2.1; the types of content are this project's own).
 use Rattle.std.specs.Prelude.{string_bytes}
 use Rattle.spec_registry.specs.Envelope.{envelope}
 use Rattle.spec_service.specs.declared.fault.Fault.{Fault}

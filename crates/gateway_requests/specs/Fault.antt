@@ -1,4 +1,5 @@
--- Laws of the codes and texts of faults (`Fault` of `spec_service`). This project's own.
+-- The codes, statuses and texts of faults (Confluent Schema Registry API, "Errors"; 41301, those from 42250 on and 501
+-- are this project's own, and so are the texts).
 use Rattle.std.specs.Prelude.{◌≡◌, ◌⊎◌, ◌/◌}
 use Rattle.spec_service.specs.declared.fault.Fault.{Fault}
 use Rattle.spec_service.specs.declared.fault.Fault.TheVariants as faults

@@ -1,4 +1,4 @@
--- How the way from an id to what is held for it is coded (`Path` of `spec_registry`). This project's own.
+-- The way from an id to what is held for it. All of this is this project's own.
 use Rattle.std.specs.Prelude.{ℕ, Option, refl}
 use Rattle.std.specs.Coded.{Coded, code_by, coded_ℕ, coded_list, coded_option, coded×}
 use Rattle.spec_registry.specs.Path.{RowCell, Path}

@@ -1,6 +1,6 @@
 //! Programs.
 //!
-//! Programs, whose parts are in range, and laws of the instruction table, which `spec_machine` defines.
+//! The instruction table: what programs are, and what each row does to a state.
 #![tactic(auto)]
 
 mod coded;

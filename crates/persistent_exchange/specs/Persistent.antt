@@ -1,4 +1,6 @@
--- What sending and handing on do to a connection that stays open (`Persistent` of `spec_service`). This project's own.
+-- What came over a connection that stays, and what was sent on it (RFC 9112, section 9.3). Which requests bytes are,
+-- and what was answered to them, is the history of `http_server`; the last answer may be another one. This project's
+-- own.
 use Rattle.std.specs.Prelude.{◌≡◌, ◌+◌, ℕ, List, ◌++◌, take, drop, Option}
 use Rattle.std.specs.Io.KnownBytes.{Appends}
 use Rattle.spec_service.specs.Persistent.{Persistent, received}

@@ -1,4 +1,4 @@
--- A service that answers one request with what was prepared for it. This project's own.
+-- An answer with its fields and a content. This project's own, but for the fields (RFC 9110, sections 6.6.1 and 8.3).
 use Rattle.std.specs.Prelude.{◌≡◌, ℕ, Bool, true, false, List}
 use Rattle.http.specs.declared.request.Request.{Request}
 use Rattle.http_server.specs.declared.response.Response.{Response}

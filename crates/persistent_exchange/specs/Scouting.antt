@@ -1,5 +1,5 @@
--- Why no request, head or piece is seen in the bytes that come next over a connection (`Scouting` of `spec_service`).
--- How long a content may be is this project's own.
+-- What is seen of the bytes that come next over a connection (RFC 9112, sections 2 to 7, as `http1` has them). How long
+-- a content may be is this project's own.
 use Rattle.std.specs.Prelude.{◌≡◌, ◌<◌, ◌++◌, ℕ, List, length, Result, Ok, Err, Bool, true, false, ◌≢◌}
 use Rattle.httparse.specs.Spans.{span_bytes}
 use Rattle.httparse.specs.declared.spans.HeaderSpan.{HeaderSpan}

@@ -1,6 +1,6 @@
 //! Programs.
 //!
-//! What is where in the program of a pair of schemas, which `spec_machine` defines: definitions and laws alone.
+//! The program of a pair of schemas.
 #![tactic(auto)]
 
 mod laws;

@@ -1,4 +1,4 @@
--- What the steps of a world are made of: events with their replies. This project's own.
+-- What happens to a world, one event after another. All of this is this project's own.
 use Rattle.std.specs.Prelude.{◌≡◌, ℕ, List, [], ◌∷◌, ◌++◌, Result, Ok, Err}
 use Rattle.spec_machine.specs.Program.{Program}
 use Rattle.spec_registry.specs.declared.refusal.Refusal.{Refusal}

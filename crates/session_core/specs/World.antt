@@ -1,4 +1,5 @@
--- Which program is that of two ids, by the commands that a registry has accepted. This project's own.
+-- A world of sessions: what its registry accepted, which pairs are published, and its sessions.
+-- All of this is this project's own.
 use Rattle.std.specs.Prelude.{◌≡◌, ℕ, List, Some}
 use Rattle.spec_schema.specs.Schema.{Declaration}
 use Rattle.spec_machine.specs.Program.{Program}

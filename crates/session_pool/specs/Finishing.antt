@@ -1,4 +1,4 @@
--- How a session that is taken out ended, and why one has no end yet. This project's own.
+-- What a session came to. All of this is this project's own.
 use Rattle.std.specs.Prelude.{◌≡◌, ◌⊎◌, Some}
 use Rattle.spec_machine.specs.State.{State}
 use Rattle.spec_sessions.specs.SessionEnding.{end_of}

@@ -1,4 +1,4 @@
--- What is known of the pair of a pass: its program leads to outcomes. This project's own.
+-- A client's right to a session. All of this is this project's own.
 use Rattle.std.specs.Prelude.{◌≡◌, Some}
 use Rattle.spec_sessions.specs.ProgramPair.{Pair}
 use Rattle.spec_machine.specs.Simulation.{EachEndIsOutcome, EarlyEndIsOutcome}

@@ -1,4 +1,4 @@
--- Blocks (Avro 1.11, "Binary Encoding", arrays and maps): encoded items, in blocks that begin with a count.
+-- Blocks (Avro 1.11, "Binary Encoding", arrays and maps): items, each spelled in bytes, in blocks after their counts.
 use Rattle.std.specs.Prelude.{◌≡◌, ◌<◌, ℕ, List, [], ◌∷◌, ◌++◌, length, Option, Some, None, ℤ, pos, neg_ℤ}
 use Rattle.spec_avro.specs.Number.{IsNumber64}
 

@@ -1,6 +1,6 @@
--- The first fault of bytes that do not begin with an encoding: all parts before one are well encoded, and that one is
--- faulty. Which bytes are no encoding is the standard's rule (Avro 1.11, "Binary Encoding"). This project's own rules:
--- the kinds of faults, their places, and the longest length.
+-- The first fault of bytes that begin no spelling: all parts before one are spelled, and that part is faulty. Which
+-- bytes are no spelling is the standard's rule (Avro 1.11, "Binary Encoding").
+-- This project's own rules: the kinds of faults, their places, and the longest length.
 use Rattle.std.specs.Prelude.{◌≡◌, ◌≤◌, ◌<◌, ℕ, suc, ◌+◌, List, ◌∷◌, ◌++◌, length, ◌⊎◌, ℤ, pos, negsuc}
 use Rattle.std.specs.List.{AllByRecursion}
 use Rattle.std.specs.Str.{IsUtf8}

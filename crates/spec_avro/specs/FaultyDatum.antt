@@ -1,6 +1,6 @@
--- The first fault of bytes that do not begin with an encoding of a datum of a node: all parts before one are well
--- encoded, and that one is faulty. Which bytes encode no datum is the standard's rule (Avro 1.11, "Binary Encoding").
--- This project's own rules: the kinds of faults, their places, and the limits.
+-- The first fault of bytes that begin no datum of a node: all parts before one are spelled, and that part is faulty.
+-- Which bytes spell none is the standard's rule (Avro 1.11, "Binary Encoding"). This project's own rules: the kinds
+-- of faults, their places, and the limits.
 use Rattle.std.specs.Prelude.{◌≡◌, ℕ, List, ◌∷◌, ◌++◌, length, Option, Some, None, slice_get, true, false}
 use Rattle.spec_avro.specs.declared.meter.Meter.{Meter}
 use Rattle.spec_avro.specs.declared.malformed.MalformedKind.{MalformedKind}

@@ -1,4 +1,4 @@
--- The names of the kinds of malformed bytes. This project's own.
+-- The names of what can be wrong with bytes.
 use Rattle.std.specs.Prelude.{ℕ, List, codes}
 use Rattle.spec_avro.specs.declared.malformed.MalformedKind.{MalformedKind}
 use Rattle.spec_avro.specs.declared.malformed.MalformedKind.TheVariants as kinds

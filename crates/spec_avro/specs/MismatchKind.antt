@@ -1,4 +1,4 @@
--- The kinds of mismatch: their names and numbers. All of this is this project's own.
+-- What can keep a datum from its reader: its names and numbers. All of this is this project's own.
 use Rattle.std.specs.Prelude.{ℕ, List, codes}
 use Rattle.spec_avro.specs.declared.mismatch.MismatchKind.{MismatchKind}
 use Rattle.spec_avro.specs.declared.mismatch.MismatchKind.TheVariants as kinds

@@ -1,4 +1,4 @@
--- What is made of an optional value. This project's own.
+-- What is made of a thing that there may be.
 use Rattle.std.specs.Prelude.{Option, Some, None}
 
 -- the thing, where there is one, and what is made of it

@@ -1,4 +1,4 @@
--- The outcome of a payload, defined by relations between bytes and data, and not by the code that reads it.
+-- The outcome of a payload, said of the relations and not of what reads it.
 use Rattle.std.specs.Prelude.{◌≡◌, ◌≤◌, ◌<◌, ℕ, List, length, Ok, Err}
 use Rattle.spec_avro.specs.Datum.{Datum}
 use Rattle.spec_avro.specs.Node.{Node}

@@ -1,5 +1,5 @@
--- When the schemas alone show that every datum of a writer can be read: no pair of nodes that mismatches is reached
--- from the roots (Avro 1.11, "Schema Resolution").
+-- When the schemas alone show that every datum of a writer can be read: where no bad pair is reached (Avro 1.11,
+-- "Schema Resolution").
 use Rattle.std.specs.Prelude.{◌≡◌, ℕ, Bool, true, false, List, Option, Some, None, Ok, Err, slice_get}
 use Rattle.spec_avro.specs.Node.{Node, FieldNode, EnumNode, UnionNode}
 use Rattle.spec_avro.specs.WellFormed.{IsWellFormed, is_union}

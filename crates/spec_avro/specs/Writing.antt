@@ -1,5 +1,5 @@
--- The one written form of a datum (Avro 1.11, "Binary Encoding"): numbers in their shortest encoding, items in one
--- block. This project's own rule: which of the encodings is written, and the limit of its bytes.
+-- The one written form of a datum (Avro 1.11, "Binary Encoding"): numbers in their shortest spelling, items in one
+-- block. This project's own rule: which of the spellings is written, and the limit of its bytes.
 use Rattle.std.specs.Prelude.{ℕ, List, [], ◌∷◌, ◌++◌, pos}
 use Rattle.spec_avro.specs.Boolean.{boolean_byte}
 use Rattle.spec_avro.specs.Shortest.{shortest}

@@ -1,5 +1,6 @@
 -- The written form of bytes after their length, and of items in one block (Avro 1.11, "Binary Encoding", bytes, arrays
--- and maps). This project's own rule: numbers in their shortest encoding, and items in one block without a size.
+-- and maps).
+-- This project's own rule: numbers in their shortest spelling, and items in one block without a size.
 use Rattle.std.specs.Prelude.{ℕ, zero, suc, List, [], ◌++◌, length, pos}
 use Rattle.spec_avro.specs.Shortest.{shortest}
 

@@ -1,4 +1,4 @@
--- The lines that are printed about a session, and about a refusal. All of this is this project's own.
+-- What is answered of a session, and for a refusal. All of this is this project's own.
 use Rattle.std.specs.Prelude.{◌≡◌, ℕ, List, [], ◌∷◌, ◌++◌, codes, is_some, Some, if◌then◌else◌}
 use Rattle.std.specs.Fmt.{decimal}
 use Rattle.spec_lines.specs.RunLine.{line_of_run}

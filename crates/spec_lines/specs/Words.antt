@@ -1,4 +1,4 @@
--- What the words of a line of `replay` or `debug` mean. All of this is this project's own.
+-- What words say: numbers, subjects, bytes. All of this is this project's own.
 use Rattle.std.specs.Prelude.{ℕ, ◌^◌, ◌&&◌, nat_lt, if◌then◌else◌, List, [], ◌∷◌, ◌++◌, Option, Some, None, codes}
 use Rattle.std.specs.Str.{bytes_eq, is_utf8}
 use Rattle.std.specs.Str.Parse.{digits_value}

@@ -1,5 +1,5 @@
--- The program of a pair of schemas: the code of the two roots (X(0, 0) of `Writing`) and HALT, then the routines in the
--- order of their first calls. This project's own.
+-- The program of a pair of schemas: X(0, 0) and HALT, then the routines in the order in which they were first called
+-- for. This project's own.
 use Rattle.std.specs.Prelude.{ℕ, zero, suc, ◌+◌, Bool, true, false, ◌&&◌, List, [], ◌∷◌, ◌++◌, length, Option, Some, None, if◌then◌else◌, slice_get}
 use Rattle.spec_avro.specs.Node.{Node}
 use Rattle.spec_avro.specs.Options.{given}

@@ -1,5 +1,5 @@
--- Why tables are no program: the first limit that is passed or reference that is out of range, in the order of maps,
--- jump tables, misses and code. This project's own.
+-- The first thing that keeps parts from being a program: of what is out of range the first in the order of maps, jump
+-- tables, misses and code. This project's own.
 use Rattle.std.specs.Prelude.{ℕ, suc, Bool, true, not, ◌&&◌, List, [], ◌∷◌, length, Option, Some, None, option_map, nat_le, nat_lt, ◌==◌, if◌then◌else◌, position, Result, Ok, Err}
 use Rattle.std.specs.Option.{option_or}
 use Rattle.spec_avro.specs.declared.mismatch.Mismatch.{Mismatch}

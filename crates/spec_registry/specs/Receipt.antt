@@ -1,4 +1,4 @@
--- Receipts: each shows a thread the schema of an id, in a registry that threads share. This project's own.
+-- Receipts: what shows which schema an id has, in a registry that threads share. This project's own.
 use Rattle.std.specs.Prelude.{◌≡◌, ◌≢◌, ℕ, ◌-◌, ◌<◌, List, Option, Some, IfSome, IsSome}
 use Rattle.std.specs.List.{slice_get}
 use Rattle.spec_schema.specs.Schema.{Declaration}

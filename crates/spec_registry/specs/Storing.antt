@@ -1,4 +1,4 @@
--- Which registry the next start makes of a file after a crash. All of this is this project's own.
+-- Which registry a file has after a crash. All of this is this project's own.
 use Rattle.std.specs.Prelude.{◌≡◌, ◌⊎◌, ◌∷◌, [], ◌++◌, List, Ok}
 use Rattle.spec_registry.specs.Accepting.{registry_after}
 use Rattle.spec_registry.specs.Answer.{IsAnswer}

@@ -1,5 +1,5 @@
--- What a JSON value declares, and which nodes (Avro 1.11, "Schema Declaration" and "Names"). Of a default it says only
--- which JSON value it is.
+-- What a JSON value declares, and which nodes (Avro 1.11, "Schema Declaration" and "Names"). Nothing is said of
+-- defaults but where they are.
 use Rattle.std.specs.Prelude.{◌≡◌, ◌≢◌, ℕ, ◌<◌, ◌≤◌, List, [], ◌∷◌, ◌++◌, length, map, true, false, Option, Some, None, codes}
 use Rattle.std.specs.List.{AllByRecursion, IsDistinct}
 use Rattle.std.specs.Str.{bytes_eq}

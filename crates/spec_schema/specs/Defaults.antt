@@ -1,5 +1,4 @@
--- The datum of each field's default, computed from its JSON (Avro 1.11, "Complex Types", the table of default values by
--- type).
+-- The data that the defaults of fields are (Avro 1.11, "Complex Types", the table of default values by type).
 use Rattle.std.specs.Prelude.{ℕ, ◌^◌, ◌==◌, List, [], ◌∷◌, length, Bool, ℤ, pos, negsuc, nat_lt, if◌then◌else◌, Option, Some, None, option_map, option_and_then, slice_get, Result}
 use Rattle.std.specs.List.{list_all}
 use Rattle.std.specs.Option.{ok_or}

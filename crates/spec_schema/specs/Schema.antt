@@ -1,4 +1,4 @@
--- The nodes that a text declares, computed, or its first fault (Avro 1.11, "Schema Declaration").
+-- Which nodes a text declares (Avro 1.11, "Schema Declaration").
 use Rattle.std.specs.Prelude.{ℕ, List, [], length, nat_le, if◌then◌else◌, Option, Some, None, Result, Err}
 use Rattle.serde_json.specs.Data.{Data}
 use Rattle.serde_json.specs.Read.{read}

@@ -1,4 +1,4 @@
--- Which nodes are the schema of which text (Avro 1.11, "Schema Declaration").
+-- Of which texts which nodes are the schema (Avro 1.11, "Schema Declaration").
 use Rattle.std.specs.Prelude.{◌≡◌, ◌≤◌, ◌↔◌, ℕ, List, [], length, false, Some, Ok, Err}
 use Rattle.serde_json.specs.Data.{Data}
 use Rattle.serde_json.specs.Read.{read}

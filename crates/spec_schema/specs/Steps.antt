@@ -1,4 +1,4 @@
--- Computations in sequence: the result of the last, or the first fault. This project's own.
+-- Steps, one after another: what they give, or the first fault. This project's own.
 use Rattle.std.specs.Prelude.{Bool, true, false, Result, Ok, Err, ⊤}
 use Rattle.spec_schema.specs.declared.schema_error.SchemaError.{SchemaError}
 

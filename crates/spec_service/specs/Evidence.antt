@@ -1,4 +1,4 @@
--- The receipts that an answer was made from. This project's own.
+-- What an answer rests on, by what its receipts represent. This project's own.
 use Rattle.spec_registry.specs.Receipt.{Shown}
 use Rattle.spec_service.specs.declared.evidence.Evidence as rust
 use Rattle.spec_service.specs.declared.sight.Sight as sights

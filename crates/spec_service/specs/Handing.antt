@@ -1,4 +1,4 @@
--- A request that was taken from a connection: what it asks, and the connection. This project's own.
+-- A request that is handed out: what it asks, and over which connection. This project's own.
 use Rattle.std.specs.Prelude.{ℕ, List, [], Option, None, Some, Result, Err}
 use Rattle.spec_service.specs.declared.fault.Fault.{Fault}
 use Rattle.spec_service.specs.Asking.{IsAsked, asked_at}

@@ -1,5 +1,4 @@
--- A message of the schema of one id, rewritten for that of another, whichever registry gave the ids. This project's
--- own.
+-- A message of one id's schema, rewritten for another's, wherever the ids are from. This project's own.
 use Rattle.std.specs.Prelude.{◌≡◌, ◌⊎◌, ℕ, List}
 use Rattle.spec_registry.specs.Receipt.{Shown, IsReceiptOf}
 use Rattle.spec_registry.specs.Envelope.{envelope, IsNoMessage}

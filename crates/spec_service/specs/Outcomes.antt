@@ -1,4 +1,4 @@
--- The answer that the outcome of a payload becomes. All of this is this project's own.
+-- What is answered of a payload between two schemas. All of this is this project's own.
 use Rattle.std.specs.Prelude.{◌≡◌, ◌⊎◌, ℕ, List, IfSome}
 use Rattle.spec_avro.specs.Outcome.{Outcome, Done, Mismatched, Malformed, OutputTooLarge}
 use Rattle.spec_avro.specs.PayloadOutcome.{IsOutcome}

@@ -1,4 +1,4 @@
--- An answer that is passed on to the server of a connection that stays open. This project's own.
+-- An answer that is passed on to the server of a connection that stays. This project's own.
 use Rattle.std.specs.Prelude.{Option}
 use Rattle.httpdate.specs.declared.date.HttpDate.{HttpDate}
 use Rattle.http_server.specs.History.{IsServed}

@@ -1,5 +1,5 @@
--- What came over a connection that stays open, and what was sent on it (RFC 9112, section 9.3). The requests and
--- answers are those of `http_server`'s history, but for a last answer that this service sends itself. This project's
+-- What came over a connection that stays, and what was sent on it (RFC 9112, section 9.3). Which requests bytes are,
+-- and what was answered to them, is the history of `http_server`; the last answer may be another one. This project's
 -- own.
 use Rattle.std.specs.Prelude.{ℕ, List, ◌++◌}
 use Rattle.http_server.specs.declared.state.Config.{Config}

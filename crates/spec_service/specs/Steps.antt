@@ -1,4 +1,4 @@
--- Computations in sequence: the result of the last, or the first fault. All of this is this project's own.
+-- Steps, one after another: what they give, or the first fault. All of this is this project's own.
 use Rattle.std.specs.Prelude.{Result, Ok, Err}
 use Rattle.spec_service.specs.declared.fault.Fault.{Fault}
 

@@ -1,5 +1,5 @@
 -- What is seen of a whole stream of bytes that comes in parts of any size. This project's own; which requests a stream
--- consists of is defined by `http1`.
+-- is, is the definition of `http1`.
 use Rattle.std.specs.Prelude.{◌≡◌, ◌≢◌, ℕ, List, [], ◌∷◌, ◌++◌, map, drop}
 use Rattle.http1.specs.Message.{ReadsRequests, Request}
 use Rattle.http1.specs.Server.{new_server}

@@ -1,4 +1,4 @@
--- Which requests are answered over a connection that stays open. This project's own; how a server answers them is the
+-- Which requests are answered over a connection that stays. This project's own; how a server answers them is the
 -- definition of `http_server`.
 use Rattle.std.specs.Prelude.{◌≡◌, ◌≢◌, ℕ, List, [], ◌∷◌, ◌++◌, length, map}
 use Rattle.http.specs.Request.{body_of, head_of}

@@ -1,4 +1,4 @@
--- What each act makes of a session, and the reply. All of this is this project's own.
+-- What happens to one session, and what is replied. All of this is this project's own.
 use Rattle.std.specs.Prelude.{◌≡◌, ◌≢◌, ◌<◌, ℕ, false, List, length, Result, Ok, Err, IfErr}
 use Rattle.spec_sessions.specs.declared.session_refusal.BreakRefusal.{BreakRefusal}
 use Rattle.spec_sessions.specs.declared.session_refusal.BreakRefusal.TheVariants as breaks

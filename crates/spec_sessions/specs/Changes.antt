@@ -1,5 +1,4 @@
--- What pieces, the end of the input, breakpoints and refused memory do to a session, and why they are refused. All of
--- this is this project's own.
+-- What other calls do to a session, and why they are refused. All of this is this project's own.
 use Rattle.std.specs.Prelude.{◌≡◌, ◌≢◌, ℕ, ◌+◌, List, ◌++◌, length, nat_le, nat_lt, true, if◌then◌else◌, Option, Some, None, Result, Ok, Err, is_some}
 use Rattle.spec_avro.specs.declared.limits.TheConstants.{MOST_PAYLOAD}
 use Rattle.spec_sessions.specs.declared.limits.TheConstants.{MOST_BREAKS}

@@ -1,4 +1,4 @@
--- How a session of a pool ended, as its client gets it. All of this is this project's own.
+-- What a session came to. All of this is this project's own.
 use Rattle.std.specs.Prelude.{◌≡◌, ◌≤◌, ℕ, List, Some, None}
 use Rattle.spec_avro.specs.Node.{Node}
 use Rattle.spec_machine.specs.State as state

@@ -1,4 +1,4 @@
--- The end of a session that a value of the Rust type represents. All of this is this project's own.
+-- How a session ends, as a value of the code says it. All of this is this project's own.
 use Rattle.spec_avro.specs.Outcome.{outcome_of}
 use Rattle.spec_sessions.specs.declared.end.SessionEnd as rust
 use Rattle.spec_sessions.specs.declared.end.SessionEnd.TheVariants as ends

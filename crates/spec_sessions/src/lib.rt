@@ -1,7 +1,7 @@
 //! What is promised of sessions.
 //!
 //! What happens to a world of sessions, and that each is its own: definitions in `specs/`, and here the plain types
-//! and limits that they speak of.
+//! that they speak of.
 #![tactic(auto)]
 
 mod end;
